@@ -2,7 +2,8 @@
 """Makes each allocation of a run fail, one in each run, and says how the runs ended.
 
 Runs the built program on the shipped examples of `compile`, `reach` and `decode`, on messages of which it tells in several
-pieces, and on a network that settles with a chain of services, of `run`. A run in which an allocation fails has to end with
+pieces, and of `run` on a network that settles with a chain of services, alone and with a trace of each packet and each node
+shown behind it. A run in which an allocation fails has to end with
 status 9 and to write a front of the text, or else as the run in which none fails. The failing allocation is made by a library
 that is loaded before the C library, and that counts them; it is compiled by `cc` to a temporary folder. A run is stopped after
 60 seconds, and has then ended otherwise.
@@ -24,6 +25,7 @@ RUNS = [("compile", "one.json"), ("reach", "reach.json"), ("decode", "update.hex
 MESSAGES = "decode", "20,000 messages"  # the text of the second half is gathered when that of the first is written
 KEEPALIVE = b"ffffffffffffffffffffffffffffffff001304\n"
 SETTLING = "run", "reach.json and settle"  # its configuration has chains
+SHOWN = "run", "reach.json, settle, its packets traced and its nodes shown"
 WORKERS = 4  # runs at a time
 SECONDS = 60  # after which a run is stopped
 
@@ -84,11 +86,14 @@ def text_of(name):
     """The input of a run."""
     if name == MESSAGES[1]:
         return KEEPALIVE * 20_000
-    if name == SETTLING[1]:
+    if name in (SETTLING[1], SHOWN[1]):
         with open(os.path.join(EXAMPLES, "reach.json"), encoding="utf-8") as file:
             document = json.load(file)
-        del document["packets"]
-        return json.dumps({**document, "events": ["settle"]}).encode()
+        traces = [{"trace": packet} for packet in document.pop("packets")]
+        topology = document["topology"]
+        shows = [{"show": node["name"]} for node in topology["controllers"] + topology["nodes"]]
+        events = ["settle"] if name == SETTLING[1] else ["settle", *traces, *shows]
+        return json.dumps({**document, "events": events}).encode()
     with open(os.path.join(EXAMPLES, name), "rb") as file:
         return file.read()
 
@@ -136,7 +141,7 @@ def main():
     program = os.path.abspath(sys.argv[1])
     with tempfile.TemporaryDirectory() as folder:
         library = compiled(folder)
-        good = [tries(folder, library, program, word, name) for word, name in [*RUNS, MESSAGES, SETTLING]]
+        good = [tries(folder, library, program, word, name) for word, name in [*RUNS, MESSAGES, SETTLING, SHOWN]]
     sys.exit(0 if all(good) else 1)
 
 

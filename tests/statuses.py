@@ -2,7 +2,7 @@
 """Runs the built program for each way that a run ends, and says where its status, its output or what it says to people is
 another.
 
-Statuses 0 and 2 to 8, `--help`, `--version`, a word that is no UTF-8, and outputs that are closed or full; of standard error a
+Statuses 0 and 2 to 8, `--help`, `-h`, `--version`, a word that is no UTF-8, and outputs that are closed or full; of standard error a
 sentence for each rule that a configuration breaks, for each kind of a document's fault, and for what is no JSON or no digits.
 Where a sentence says which numbers the form allows, they are to be those of docs/overlay.schema.json.
 Status 9, want of memory, is shown by tests/allocations.py.
@@ -33,10 +33,13 @@ agent n1 acl 1 1 subnets 10.1.0.0/24
 agent n1 table 1 10.1.0.5/32 192.0.2.11 23
 """
 NO_READ = b"overlay: standard input could not be read: give it a file or a pipe that is open\n"
-NO_WRITE = b"overlay: standard output could not be written: see that it is open, and that there is room where it goes\n"
+NO_WRITE = (
+    b"overlay: standard output could not be written: what takes it was closed, as by head, or there is no room where it goes\n"
+)
 TOO_LONG = b"overlay: the input has more than 16,777,216 octets: leave out what is not asked for, or make two of it\n"
 NO_JSON = b"overlay: the input is no JSON, and reading it stopped at "
 EMPTY = b"overlay: the input is empty: give it a document, as those of examples/\n"
+BLANK = b"overlay: the input is blanks alone: give it a document, as those of examples/\n"
 MARK = b"overlay: the input begins with a byte order mark, which is no JSON: leave it out\n"
 NO_PAIR = b"overlay: hexadecimal digits stand in pairs, and that at line %d, column %d has no other\n"
 STRAY = b"overlay: neither a hexadecimal digit nor a blank stands at line %d, column %d\n"
@@ -87,7 +90,8 @@ FIREWALL = {"name": "fw", "id": 7, "node": "n1"}
 REFUSED = [
     (document(9), b"Limit controllers", b"a topology has at most 8 control nodes, and this one has more"),
     (document(networks=[RED, network("red", 2, "10.2.0.0/24")]), b"DuplicateName red",
-     b"a name stands for one thing of its kind, and red is given twice"),
+     b"one name is given to two nodes, to two objects of one kind or to a service and a chain, "
+     b"or stands twice in the list of a compute node: red"),
     (document(networks=[RED, network("blue", 1, "10.2.0.0/24")]), b"DuplicateId network 1",
      b"each network has an id of its own, and two have 1"),
     (document(networks=[network("red", 1, "10.1.0.0/24", policies=["web"])]), b"BadReference web",
@@ -103,7 +107,7 @@ REFUSED = [
      b"the ports of a network have addresses of their own, and ports vm1 and vm2 have the same"),
     (document(networks=[RED, BLUE], services=[FIREWALL], chains=[{"name": "c", "hops": ["fw"]}],
               policies=[policy(through("c", 1, source="any"))]), b"ChainNeedsNetworks 20/1",
-     b"a rule through a chain names both of its networks, and rule 20/1 has any for one"),
+     b"a rule through a chain names both of its networks, and rule 20/1 has any"),
     (document(networks=[RED, BLUE], services=[FIREWALL], chains=[{"name": "c", "hops": ["fw"]}],
               policies=[policy(through("c", 1, destination="red"))]), b"ChainSameNetwork 20/1",
      b"a rule through a chain is between two networks, and rule 20/1 names one twice"),
@@ -136,7 +140,8 @@ BAD = [
      b"a name of 1 to 32 of the characters a to z, 0 to 9, - and _"),
     (document(policies=[policy({"direction": "<"})]), b"configuration.policies[0].rules[0].direction Range",
      b"configuration.policies[0].rules[0].direction is outside what the form allows there: > or <>"),
-    (document(nets=[]), b"configuration.nets Unknown", b"configuration.nets is a member that the form does not have there"),
+    (document(nets=[]), b"configuration.nets Unknown", b"configuration.nets is a member that the form does not have there: "
+     b"networks, ports, policies, services and chains"),
     (document(**{"n" * 600: []}), b"configuration.%s Unknown" % (b"n" * 600),
      b"configuration.%s.. breaks the form; standard output has the whole path, and how" % (b"n" * 485)),
 ]
@@ -213,8 +218,7 @@ def numbered(past):
     part = in_schema("names_and_number", "prefixItems", 2)
     for member in ("deliver", "deliver-bytes", "break"):
         lists = with_members(events=[{member: ["c1", "n1", past(part)]}])
-        name = b"a name of 1 to 32 of the characters a to z, 0 to 9, - and _"
-        yield b"run", lists, part, b"events[0].%s[2]" % member.encode(), name + b", or in the third place %s"
+        yield b"run", lists, part, b"events[0].%s[2]" % member.encode(), b"%s"
 
 
 def lengthy():
@@ -247,8 +251,8 @@ RUNS = [
     ([b"compile"], b" " * 16_777_217, 4, b"", TOO_LONG),
     ([b"compile"], b"", 5, b"not json\n", EMPTY),
     ([b"compile"], b"\xef\xbb\xbf" + example("one.json"), 5, b"not json\n", MARK),
-    ([b"compile"], b"\n", 5, b"not json\n", NO_JSON + b"line 2, column 1\n"),
-    ([b"compile"], b"{", 5, b"not json\n", NO_JSON + b"line 1, column 1\n"),
+    ([b"compile"], b"\n", 5, b"not json\n", BLANK),
+    ([b"compile"], b"{", 5, b"not json\n", NO_JSON + b"line 1, column 2\n"),
     ([b"run"], b'{"a": 1,\n "b": x}', 5, b"not json\n", NO_JSON + b"line 2, column 7\n"),
     ([b"reach"], b'{"a":\n  "\xff"}', 5, b"not json\n", NO_JSON + b"line 2, column 4\n"),
     ([b"decode"], b"0", 5, b"not hex\n", NO_PAIR % (1, 1)),
@@ -260,8 +264,24 @@ RUNS = [
 ]
 # what is built by tools/build_unproved.py says so
 VERSIONS = [b"overlay 0.1.0\n", b"overlay 0.1.0, not proved\n"]
-# words that are no command
-WRONG = [[], [b"show"], [b"compile", b"reach"], [b"--help", b"compile"], [b"gen"], [b"gen", b"03"], [b"\xff"]]
+# words that are no command, and what is said of them before the usage
+WRONG = [
+    ([], b""),
+    ([b"show"], b"overlay: show is no command\n"),
+    ([b"compil"], b"overlay: compil is no command, and the nearest is compile\n"),
+    ([b"fows"], b"overlay: fows is no command, and the nearest is flows\n"),
+    ([b"Run"], b"overlay: Run is no command, and the nearest is run\n"),
+    ([b"help"], b"overlay: help is no command, and the nearest is --help\n"),
+    ([b"one.json"], b"overlay: one.json is no command\n"),
+    ([b"\x1b[2J"], b"overlay: \\x1b[2J is no command\n"),
+    ([b""], b"overlay:  is no command\n"),
+    ([b"compile", b"one.json"], b"overlay: compile reads standard input: overlay compile < one.json\n"),
+    ([b"decode", b"a", b"b"], b"overlay: decode reads standard input: overlay decode < a\n"),
+    ([b"--help", b"compile"], b""),
+    ([b"gen"], b"overlay: gen takes one number, 1 to 999\n"),
+    ([b"gen", b"03"], b"overlay: gen takes one number, 1 to 999\n"),
+    ([b"\xff"], b""),
+]
 
 
 def names_each(text, words):
@@ -297,13 +317,15 @@ def others(program):
         got = written(program, words, text)
         if got != tuple(wanted):
             yield f"{words}: status {got[0]} and not {wanted[0]}, {got[1][:80]!r}, {got[2][:80]!r}"
-    for words in WRONG:
+    for words, fault in WRONG:
         status, out, said = written(program, words, b"")
-        if (status, out) != (2, b"") or not said.startswith(USAGE) or not names_each(said, COMMANDS):
+        if (status, out) != (2, b"") or not said.startswith(fault + USAGE) or not names_each(said, COMMANDS):
             yield f"{words}: status {status}, {out[:80]!r}, {said[:80]!r}"
     status, out, said = written(program, [b"--help"], b"")
     if (status, said) != (0, b"") or not names_each(out, COMMANDS + STATUSES):
         yield f"--help: status {status}, {out[:80]!r}, {said[:80]!r}"
+    if written(program, [b"-h"], b"") != (status, out, said):
+        yield "-h: not as --help"
     status, out, said = written(program, [b"--version"], b"")
     if (status, said) != (0, b"") or out not in VERSIONS:
         yield f"--version: status {status}, {out[:80]!r}, {said[:80]!r}"
@@ -337,7 +359,7 @@ def main():
     found = list(others(os.path.abspath(sys.argv[1])))
     for line in found:
         print(line)
-    print(f"{len(RUNS) + len(WRONG) + 7} runs, {len(found)} that ended otherwise")
+    print(f"{len(RUNS) + len(WRONG) + 8} runs, {len(found)} that ended otherwise")
     sys.exit(1 if found else 0)
 
 

@@ -1,8 +1,8 @@
 //! The help, and what to do where a run did not come to its end.
 
-use crate::fault::CaseFault;
+use crate::fault::{CaseFault, told};
 use crate::sentences;
-use explanations::{Advice, Explanation, HelpText, UsageText};
+use explanations::{Advice, Explanation, HelpText, UsageText, explain_words};
 use ov_io::TextOut;
 use std::alloc::Global;
 
@@ -14,6 +14,7 @@ pub(crate) fn tell(
 ) -> Result<(), CaseFault> {
     match kind {
         "advice" => tell_advice(given, out),
+        "asked" => tell_asked(alloc, given, out),
         _ => tell_places(alloc, kind, given, out),
     }
 }
@@ -33,6 +34,22 @@ fn advice_of(end: &str) -> Option<Advice> {
         "no-memory" => Some(Advice::NoMemory),
         _ => None,
     }
+}
+
+/// What is said of words of the command line that are no command.
+fn tell_asked(alloc: Global, text: &str, out: &mut TextOut) -> Result<(), CaseFault> {
+    let words = words_of(alloc, text)?;
+    let fault = explain_words(alloc, words.as_slice());
+    told(write!(out, "{fault}"))
+}
+
+/// The words of a text. A blank in a word is spelled `\s`.
+fn words_of(alloc: Global, text: &str) -> Result<Vec<String>, CaseFault> {
+    let mut words = Vec::new(alloc);
+    for word in text.split_whitespace() {
+        words.push(word.replace(alloc, "\\s", " ")?)?;
+    }
+    Ok(words)
 }
 
 /// Which of the help and the usage have a line that begins with a word, or have these words anywhere.

@@ -133,12 +133,12 @@ ends_as_member (c ∷ word) h =
     ap (λ n. pointwise nat_eq (drop n (c ∷ word)) (93 ∷ [])) size ∙ other_end c word h
 
 by_words : (path word parent : List ℕ) → behind_point path ≡ word → member_name (behind_point (before_point path)) ≡ parent
-    → wanted_at path ≡ cond (is_item word) (item_wanted parent (member_name word)) (member_wanted parent (member_name word))
+    → wanted_at path ≡ cond (is_item word) (item_wanted parent (member_name word) word) (member_wanted parent (member_name word))
 unfolding wanted_at
 by_words path word parent e f = rw (e, f) refl
 
 phrase_is : (parent name : List ℕ) (place : Option (List ℕ)) → IsPart name
-    → cond (is_item (placed name place)) (item_wanted parent (member_name (placed name place))) (member_wanted parent (member_name (placed name place)))
+    → cond (is_item (placed name place)) (item_wanted parent (member_name (placed name place)) (placed name place)) (member_wanted parent (member_name (placed name place)))
     ≡ phrase_of parent name place
 phrase_is parent name None h = rw (ends_as_member name (lacks name h).closing, name_is name None h) refl
 phrase_is parent name (Some place) h =

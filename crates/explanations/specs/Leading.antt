@@ -26,7 +26,7 @@ joined (Some front) word = front ++ (46 ∷ word)
 
 abbrev pub phrase_of : List ℕ → List ℕ → Option (List ℕ) → List ℕ
 phrase_of parent name None = member_wanted parent name
-phrase_of parent name (Some place) = item_wanted parent name
+phrase_of parent name (Some place) = item_wanted parent name (placed name (Some place))
 
 -- a path leads to the phrase of its last member, or of the item, by the member before it or by none
 pub record PathsLeadToPhrases : Type 0 where

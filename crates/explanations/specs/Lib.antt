@@ -1,3 +1,4 @@
+pub mod Allowed
 pub mod Counting
 pub mod Digits
 pub mod Ends

@@ -53,7 +53,8 @@ id_claim word =
 abbrev pub refused_sentence : RuleKind → List ℕ → List ℕ → List ℕ → List ℕ
 refused_sentence Rule.Limit first second third = limit_claim first
 refused_sentence Rule.DuplicateName first second third =
-    codes "a name stands for one thing of its kind, and " ++ (first ++ codes " is given twice")
+    codes "one name is given to two nodes, to two objects of one kind or to a service and a chain, or stands twice in the list of a compute node: "
+    ++ first
 refused_sentence Rule.DuplicateId first second third = id_claim first ++ (codes " " ++ second)
 refused_sentence Rule.BadReference first second third =
     codes "what is referred to has to exist, and nothing of the wanted kind is named " ++ first
@@ -69,7 +70,7 @@ refused_sentence Rule.AddressTaken first second third =
     codes "the ports of a network have addresses of their own, and ports " ++ (first ++ (codes " and "
     ++ (second ++ codes " have the same")))
 refused_sentence Rule.ChainNeedsNetworks first second third =
-    codes "a rule through a chain names both of its networks, and rule " ++ (first ++ codes " has any for one")
+    codes "a rule through a chain names both of its networks, and rule " ++ (first ++ codes " has any")
 refused_sentence Rule.ChainSameNetwork first second third =
     codes "a rule through a chain is between two networks, and rule " ++ (first ++ codes " names one twice")
 refused_sentence Rule.ChainLoop first second third =

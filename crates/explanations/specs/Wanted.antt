@@ -24,7 +24,7 @@ abbrev is : List ℕ → List ℕ → Bool
 is word text = pointwise nat_eq word text
 
 -- what is said of a place that the form does not have
-abbrev no_phrase : List ℕ
+abbrev pub no_phrase : List ℕ
 no_phrase = codes "docs/FORMATS.md has it"
 
 -- phrases of several places
@@ -159,8 +159,8 @@ event_member member =
     else (if is member (codes "lose") || is member (codes "connect") then codes "a list of two names"
     else (if is member (codes "restart") || is member (codes "show") then name
     else (if is member (codes "trace") then object
-    else (if is member (codes "opened") then codes "an OPEN without a fault, in pairs of hexadecimal digits"
-    else (if is member (codes "update") then codes "an UPDATE without a fault, in pairs of hexadecimal digits"
+    else (if is member (codes "opened") then codes "an OPEN without a fault of its frame or its parts, in pairs of hexadecimal digits"
+    else (if is member (codes "update") then codes "an UPDATE without a fault of its frame or its parts, in pairs of hexadecimal digits"
     else no_phrase))))))
 
 unfoldable pub edit_member : List ℕ → List ℕ
@@ -216,9 +216,17 @@ policies_item parent =
     else (if is parent (codes "networks") || is parent (codes "network") then name
     else no_phrase)
 
--- what is wanted of an item of a list that is a member behind another
-unfoldable pub item_wanted : List ℕ → List ℕ → List ℕ
-item_wanted parent member =
+-- a word leads to the third item of its list
+abbrev pub is_third : List ℕ → Bool
+is_third word = ends_so (codes "[2]") word
+
+-- of a list of two names and a number
+abbrev pub item_of_three : List ℕ → List ℕ
+item_of_three word = if is_third word then codes "a whole number from 1 to 1000000" else name
+
+-- what is wanted of an item of a list that is a member behind another; the word has its place beside the member
+unfoldable pub item_wanted : List ℕ → List ℕ → List ℕ → List ℕ
+item_wanted parent member word =
     if is member (codes "controllers") then controllers_item parent
     else (if is member (codes "policies") then policies_item parent
     else (if is member (codes "nodes") || is member (codes "networks") || is member (codes "ports")
@@ -229,10 +237,10 @@ item_wanted parent member =
     || is member (codes "members") then sixteen_bits
     else (if is member (codes "hops") || is member (codes "lose") || is member (codes "connect") then name
     else (if is member (codes "deliver") || is member (codes "deliver-bytes") || is member (codes "break")
-    then codes "a name of 1 to 32 of the characters a to z, 0 to 9, - and _, or in the third place a whole number from 1 to 1000000"
+    then item_of_three word
     else (if is member (codes "steps") then codes "an object with one member, edit or trace"
     else (if is member (codes "events")
-    then codes "a word or an object with one member, as docs/FORMATS.md has them"
+    then codes "of run round, settle or an object with one member: edit, deliver, deliver-bytes, lose, connect, restart, show, trace or break; of graceful closed, expired, show or an object with one member: opened or update"
     else no_phrase))))))))
 
 -- what is wanted at a path, by its last member and the one before
@@ -240,4 +248,4 @@ unfoldable pub wanted_at : List ℕ → List ℕ
 wanted_at path =
     let word = behind_point path in
     let parent = member_name (behind_point (before_point path)) in
-    if is_item word then item_wanted parent (member_name word) else member_wanted parent (member_name word)
+    if is_item word then item_wanted parent (member_name word) word else member_wanted parent (member_name word)

@@ -43,7 +43,7 @@ pub struct DigitScan {
     fault: Option<DigitFault>,
 }
 
-fn is_blank(octet: u8) -> bool
+pub(crate) fn is_blank(octet: u8) -> bool
     ensures { result ≡ is_blank octet }
 {
     matches!(octet, b' ' | b'\t' | b'\n' | b'\r')

@@ -1,14 +1,16 @@
 //! What is said to people of a run, in one sentence.
 ghost use Rattle.std.specs.Prelude.{◌≡◌};
+ghost use Rattle.std.specs.List.{list_all};
 ghost use Rattle.explanations.specs.Explanations.{IsDocumentStop, IsStop, explanation_text, form_explanation};
-ghost use Rattle.explanations.specs.Explanations.{refusal_explanation};
+ghost use Rattle.explanations.specs.Explanations.{advice_of, is_wide, refusal_explanation};
+ghost use Rattle.explanations.specs.Digits.{is_blank};
+ghost use Rattle.explanations.specs.Words.{begins_so};
 
-use crate::digits::{DigitFault, digit_fault};
+use crate::digits::{DigitFault, digit_fault, is_blank};
 use crate::ends::KeptInput;
 use crate::form::{FormFault, form_fault_in};
 use crate::help::Advice;
-use crate::json::json_stop;
-use crate::place::TextPlace;
+use crate::json::{JsonFault, json_fault};
 use crate::refused::{Refused, refused_in};
 use std::alloc::Global;
 use std::fmt;
@@ -17,8 +19,7 @@ use std::fmt;
 #[derive(Clone, Copy)]
 pub enum Explanation<'a> {
     Advice(Advice),
-    /// Where reading JSON stopped.
-    JsonStop(TextPlace),
+    JsonFault(JsonFault),
     DigitFault(DigitFault),
     FormFault(FormFault<'a>),
     Refused(Refused<'a>),
@@ -33,10 +34,7 @@ impl fmt::Display for Explanation<'_> {
     fn fmt<W: fmt::Write>(&self, f: &mut fmt::Formatter<W>) -> fmt::Result {
         match self {
             Explanation::Advice(advice) => write!(f, "overlay: {advice}\n"),
-            Explanation::JsonStop(place) => write!(
-                f,
-                "overlay: the input is no JSON, and reading it stopped at {place}\n"
-            ),
+            Explanation::JsonFault(fault) => write!(f, "overlay: {fault}\n"),
             Explanation::DigitFault(fault) => write!(f, "overlay: {fault}\n"),
             Explanation::FormFault(fault) => write!(f, "overlay: {fault}\n"),
             Explanation::Refused(refused) => write!(f, "overlay: {refused}\n"),
@@ -58,21 +56,61 @@ pub fn explain_stop(alloc: Global, heard: &KeptInput) -> Explanation<'static>
     }
 }
 
-/// Says why a document is no JSON. An empty one, and one that begins with a byte order mark, are told so without a place,
-/// which would be the first octet's.
+/// Says why a document is no JSON. One that has no octets, or blanks alone, and one in UTF-16 or behind a byte order mark, are
+/// told so without a place, which would be the first octet's.
 fn explain_document_stop(alloc: Global, octets: &[u8]) -> Explanation<'static>
     ensures { IsDocumentStop octets.now (explanation_text result) }
 {
-    if octets.is_empty() {
-        return Explanation::Advice(Advice::EmptyInput);
+    if let Some(advice) = advice_of(octets) {
+        return Explanation::Advice(advice);
     }
-    if octets.strip_prefix(b"\xef\xbb\xbf").is_some() {
-        return Explanation::Advice(Advice::ByteOrderMark);
-    }
-    match json_stop(alloc, octets) {
-        Some(place) => Explanation::JsonStop(place),
+    match json_fault(alloc, octets) {
+        Some(fault) => Explanation::JsonFault(fault),
         None => Explanation::Advice(Advice::NotJson),
     }
+}
+
+/// What to do about a document that shows at its front, or at all of it, why it is no JSON.
+fn advice_of(octets: &[u8]) -> Option<Advice>
+    ensures { result ≡ advice_of octets.now }
+{
+    if octets.is_empty() {
+        return Some(Advice::EmptyInput);
+    }
+    if begins_so(octets, b"\xef\xbb\xbf") {
+        return Some(Advice::ByteOrderMark);
+    }
+    if is_wide(octets) {
+        return Some(Advice::WideInput);
+    }
+    if are_blanks(octets) {
+        return Some(Advice::BlankInput);
+    }
+    None
+}
+
+fn are_blanks(octets: &[u8]) -> bool
+    ensures { result ≡ list_all is_blank octets.now }
+{
+    octets.iter().all(|octet| is_blank(*octet))
+}
+
+/// Whether octets are those of a text in UTF-16 or UTF-32: one of the first two is no character, or they are the mark that
+/// some editors put before such a text.
+fn is_wide(octets: &[u8]) -> bool
+    ensures { result ≡ is_wide octets.now }
+{
+    let behind_first = &octets[octets.len().min(1)..];
+    begins_so(octets, b"\0")
+        || begins_so(behind_first, b"\0")
+        || begins_so(octets, b"\xfe\xff")
+        || begins_so(octets, b"\xff\xfe")
+}
+
+fn begins_so(octets: &[u8], front: &[u8]) -> bool
+    ensures { result ≡ begins_so front.now octets.now }
+{
+    octets.strip_prefix(front).is_some()
 }
 
 /// Says which value of a document breaks the form, and how, of the line that tells it.

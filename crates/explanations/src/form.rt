@@ -1,13 +1,17 @@
 //! The line of a document that breaks the form.
 ghost use Rattle.std.specs.Prelude.{◌≡◌, option_map};
-ghost use Rattle.explanations.specs.Form.{FormWords, form_fault_in, kind_at_end, form_words, subject_of};
+ghost use Rattle.explanations.specs.Form.{FormWords, form_fault_in, form_words, kind_at_end, kind_note, stranger_of};
+ghost use Rattle.explanations.specs.Form.{subject_of};
 ghost use Rattle.explanations.specs.Words.{utf8_front};
 
+use crate::allowed::allowed_at;
+use crate::ends::FRONT_OCTETS;
+use crate::shown::Shown;
 use crate::text::utf8_front;
 use crate::wanted::wanted_at;
 use std::fmt;
 
-/// How a document breaks the form. `Cut` is where its line is longer than what was kept of it.
+/// How a document breaks the form. `Cut` is where its line may be longer than what was kept of it.
 #[derive(Clone, Copy, Debug, PartialEq, Eq)]
 pub enum FormKind {
     Missing,
@@ -35,6 +39,27 @@ fn subject_of(path: &str) -> &str
     }
 }
 
+/// What the path of a member leads to that the form does not have. The empty one leads to a member of the document.
+fn stranger_of(path: &str) -> &str
+    ensures { result.now ≡ stranger_of path.now }
+{
+    if path.is_empty() {
+        "the member without a name"
+    } else {
+        path
+    }
+}
+
+/// What is said of a value of another kind than the one that is wanted: of a number, which numbers are whole.
+fn kind_note(wanted: &str) -> &'static str
+    ensures { result.now ≡ kind_note wanted.now }
+{
+    match wanted.as_bytes().strip_prefix(b"a whole number") {
+        Some(_) => "; a number stands in digits alone and is below 2^64",
+        None => "",
+    }
+}
+
 impl fmt::Display for FormFault<'_> {
     ghost use Rattle.std.specs.Prelude.{Some};
     ghost use Rattle.explanations.specs.Form.{form_sentence};
@@ -43,34 +68,38 @@ impl fmt::Display for FormFault<'_> {
 
     fn fmt<W: fmt::Write>(&self, f: &mut fmt::Formatter<W>) -> fmt::Result {
         let path = self.path;
-        let subject = subject_of(path);
+        let subject = Shown(subject_of(path));
+        let wanted = wanted_at(path);
         match self.kind {
             FormKind::Missing => {
-                let wanted = wanted_at(path);
                 write!(f, "{subject} is missing, and the form wants it: {wanted}")
             }
             FormKind::Kind => {
-                let wanted = wanted_at(path);
+                let note = kind_note(wanted);
                 write!(
                     f,
-                    "{subject} is a JSON value of another kind than the form wants there: {wanted}"
+                    "{subject} is a JSON value of another kind than the form wants there: {wanted}{note}"
                 )
             }
-            FormKind::Range => {
-                let wanted = wanted_at(path);
+            FormKind::Range => write!(
+                f,
+                "{subject} is outside what the form allows there: {wanted}"
+            ),
+            FormKind::Unknown => {
+                let stranger = Shown(stranger_of(path));
+                let allowed = allowed_at(path);
                 write!(
                     f,
-                    "{subject} is outside what the form allows there: {wanted}"
+                    "{stranger} is a member that the form does not have there: {allowed}"
                 )
             }
-            FormKind::Unknown => write!(
-                f,
-                "{subject} is a member that the form does not have there"
-            ),
-            FormKind::Cut => write!(
-                f,
-                "{path}.. breaks the form; standard output has the whole path, and how"
-            ),
+            FormKind::Cut => {
+                let front = Shown(path);
+                write!(
+                    f,
+                    "{front}.. breaks the form; standard output has the whole path, and how"
+                )
+            }
         }
     }
 }
@@ -81,7 +110,11 @@ pub fn form_fault_in(line: &[u8]) -> Option<FormFault<'_>>
     ensures { option_map form_words result ≡ form_fault_in line.now }
 {
     let told = line.strip_prefix(b"bad document")?;
-    let (spaced, kind) = kind_at_end(told);
+    let (spaced, kind) = if line.len() < FRONT_OCTETS {
+        kind_at_end(told)
+    } else {
+        (told, FormKind::Cut)
+    };
     let path = match spaced.split_first() {
         Some((_blank, path)) => path,
         None => spaced,

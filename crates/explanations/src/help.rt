@@ -18,7 +18,7 @@ pub const COMMANDS: &str =
   run < DOCUMENT       what a network of nodes answers to the events of a schedule
   decode < DIGITS      what BGP messages say that are spelled in hexadecimal digits
   gen NUMBER           a large scenario made from a number, 1 to 999, in three lines; reads no input
-  --help               this text
+  --help               this text; so does -h
   --version            the version
 ";
 
@@ -67,7 +67,9 @@ pub enum Advice {
     TooLong,
     NotJson,
     EmptyInput,
+    BlankInput,
     ByteOrderMark,
+    WideInput,
     BadDocument,
     Refused,
     WriteFault,
@@ -96,13 +98,16 @@ fn advice_text(advice: Advice) -> &'static str
         Advice::NotJson =>
             "the input cannot be read: give a JSON text, or for decode pairs of hexadecimal digits",
         Advice::EmptyInput => "the input is empty: give it a document, as those of examples/",
+        Advice::BlankInput =>
+            "the input is blanks alone: give it a document, as those of examples/",
         Advice::ByteOrderMark =>
             "the input begins with a byte order mark, which is no JSON: leave it out",
+        Advice::WideInput => "the input is UTF-16 or UTF-32, or no text: give it in UTF-8",
         Advice::BadDocument =>
             "the document breaks the form: docs/FORMATS.md has it, and docs/overlay.schema.json for an editor",
         Advice::Refused => "the configuration breaks a rule: docs/MODEL.md has the rules",
         Advice::WriteFault =>
-            "standard output could not be written: see that it is open, and that there is room where it goes",
+            "standard output could not be written: what takes it was closed, as by head, or there is no room where it goes",
         Advice::NoMemory =>
             "there was no memory: allow the program more, or give it a smaller input",
     }

@@ -33,7 +33,7 @@ impl fmt::Display for Refused<'_> {
             }
             RuleKind::DuplicateName => write!(
                 f,
-                "a name stands for one thing of its kind, and {first} is given twice"
+                "one name is given to two nodes, to two objects of one kind or to a service and a chain, or stands twice in the list of a compute node: {first}"
             ),
             RuleKind::DuplicateId => {
                 let claim = id_claim(first);
@@ -61,7 +61,7 @@ impl fmt::Display for Refused<'_> {
             ),
             RuleKind::ChainNeedsNetworks => write!(
                 f,
-                "a rule through a chain names both of its networks, and rule {first} has any for one"
+                "a rule through a chain names both of its networks, and rule {first} has any"
             ),
             RuleKind::ChainSameNetwork => write!(
                 f,

@@ -2,14 +2,14 @@
 ghost use Rattle.std.specs.Prelude.{◌≡◌};
 ghost use Rattle.explanations.specs.Wanted.{before_point, behind_point, is_item, member_name};
 ghost use Rattle.explanations.specs.Wanted.{item_wanted, member_wanted, wanted_at};
-ghost use Rattle.explanations.specs.Wanted.{controllers_item, policies_item};
+ghost use Rattle.explanations.specs.Wanted.{controllers_item, is_third, item_of_three, policies_item};
 ghost use Rattle.explanations.specs.Wanted.{chain_member, configuration_member, controller_member, document_member};
 ghost use Rattle.explanations.specs.Wanted.{edit_member, event_member, group_member, kind_member, listed_member};
 ghost use Rattle.explanations.specs.Wanted.{network_member, node_member, packet_member, policy_member, port_member};
 ghost use Rattle.explanations.specs.Wanted.{rule_member, service_member, topology_member};
 
 /// Of a place that the form does not have.
-const NO_PHRASE: &str = "docs/FORMATS.md has it";
+pub(crate) const NO_PHRASE: &str = "docs/FORMATS.md has it";
 
 const OBJECT: &str = "an object";
 
@@ -36,14 +36,14 @@ pub(crate) fn wanted_at(path: &str) -> &'static str
     let (front, word) = cut_at_point(path);
     let (_, parent) = cut_at_point(front);
     if is_item(word) {
-        item_wanted(member_name(parent), member_name(word))
+        item_wanted(member_name(parent), member_name(word), word)
     } else {
         member_wanted(member_name(parent), member_name(word))
     }
 }
 
 /// A path cut at its last point; where there is none, nothing and the path.
-fn cut_at_point(path: &str) -> (&str, &str)
+pub(crate) fn cut_at_point(path: &str) -> (&str, &str)
     ensures front { result.0.now ≡ before_point path.now }
     ensures back { result.1.now ≡ behind_point path.now }
 {
@@ -54,7 +54,7 @@ fn cut_at_point(path: &str) -> (&str, &str)
 }
 
 /// A member without the place of an item.
-fn member_name(word: &str) -> &str
+pub(crate) fn member_name(word: &str) -> &str
     ensures { result.now ≡ member_name word.now }
 {
     match word.split_once('[') {
@@ -289,8 +289,10 @@ fn event_member(member: &str) -> &'static str
         "lose" | "connect" => "a list of two names",
         "restart" | "show" => NAME,
         "trace" => OBJECT,
-        "opened" => "an OPEN without a fault, in pairs of hexadecimal digits",
-        "update" => "an UPDATE without a fault, in pairs of hexadecimal digits",
+        "opened" =>
+            "an OPEN without a fault of its frame or its parts, in pairs of hexadecimal digits",
+        "update" =>
+            "an UPDATE without a fault of its frame or its parts, in pairs of hexadecimal digits",
         _ => NO_PHRASE,
     }
 }
@@ -318,10 +320,11 @@ fn kind_member(phrase: &'static str, member: &str) -> &'static str
     }
 }
 
-/// What is wanted of an item of a list, by the member before it where two lists have one name.
+/// What is wanted of an item of a list, by the member before it where two lists have one name, and by its place where it is
+/// one of three.
 #[tactic(auto, unfolding(crate::specs::Wanted::item_wanted))]
-fn item_wanted(parent: &str, member: &str) -> &'static str
-    ensures { result.now ≡ item_wanted parent.now member.now }
+fn item_wanted(parent: &str, member: &str, word: &str) -> &'static str
+    ensures { result.now ≡ item_wanted parent.now member.now word.now }
 {
     match member {
         "controllers" => controllers_item(parent),
@@ -331,12 +334,30 @@ fn item_wanted(parent: &str, member: &str) -> &'static str
         "subnets" => "a prefix such as 10.1.0.0/24, with no bit set past its length",
         "source_ports" | "destination_ports" | "members" => SIXTEEN_BITS,
         "hops" | "lose" | "connect" => NAME,
-        "deliver" | "deliver-bytes" | "break" =>
-            "a name of 1 to 32 of the characters a to z, 0 to 9, - and _, or in the third place a whole number from 1 to 1000000",
+        "deliver" | "deliver-bytes" | "break" => item_of_three(word),
         "steps" => "an object with one member, edit or trace",
-        "events" => "a word or an object with one member, as docs/FORMATS.md has them",
+        "events" =>
+            "of run round, settle or an object with one member: edit, deliver, deliver-bytes, lose, connect, restart, show, trace or break; of graceful closed, expired, show or an object with one member: opened or update",
         _ => NO_PHRASE,
     }
+}
+
+/// Of a list of two names and a number.
+fn item_of_three(word: &str) -> &'static str
+    ensures { result.now ≡ item_of_three word.now }
+{
+    if is_third(word) {
+        "a whole number from 1 to 1000000"
+    } else {
+        NAME
+    }
+}
+
+/// Whether a word leads to the third item of its list.
+fn is_third(word: &str) -> bool
+    ensures { result ≡ is_third word.now }
+{
+    word.as_bytes().strip_suffix(b"[2]").is_some()
 }
 
 /// Of the controllers of a topology, and of a node.

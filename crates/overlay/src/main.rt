@@ -14,9 +14,11 @@ ghost use Rattle.overlay.specs.Requests.{request_named, request_of};
 ghost use Rattle.overlay.specs.Saying.{IsSaid};
 ghost use Rattle.top_call.specs.Runs.{number_of};
 
+mod laws;
+
 use explanations::{
     Advice, Explanation, FrontSink, HeardSource, HelpText, KeptInput, UsageText, explain_form,
-    explain_refusal, explain_stop,
+    explain_refusal, explain_stop, explain_words,
 };
 use ov_io::{StdSink, StdSource};
 use std::alloc::Global;
@@ -50,7 +52,7 @@ fn request_named(word: &str) -> Request
     ensures { result ≡ request_named word.now }
 {
     match word {
-        "--help" => Request::Help,
+        "--help" | "-h" => Request::Help,
         "--version" => Request::Version,
         _ => Request::Run,
     }
@@ -128,9 +130,10 @@ fn explanation<'a>(
     }
 }
 
-/// Says to people on standard error how a run ended. A fault there changes nothing.
-fn say(rt: &HostRuntime, status: Status, front: &[u8], heard: &KeptInput) {
+/// Says to people on standard error how a run of these words ended. A fault there changes nothing.
+fn say(rt: &HostRuntime, words: &[String], status: Status, front: &[u8], heard: &KeptInput) {
     if status == Status::Usage {
+        let _ = rt.eprint(explain_words(rt.alloc(), words));
         let _ = rt.eprint(UsageText);
     }
     if let Some(explanation) = explanation(rt.alloc(), status, front, heard) {
@@ -145,21 +148,21 @@ fn run(rt: &HostRuntime, words: &[String]) -> Status {
     let mut sink = FrontSink::new(StdSink::new(rt.stdout()));
     let mut net = None;
     let status = overlay(rt.alloc(), words, &mut source, &mut sink, &mut net);
-    say(rt, status, sink.front(), source.heard());
+    say(rt, words, status, sink.front(), source.heard());
     status
 }
 
 /// Prints what is asked of `main` itself, and says to people how that ended.
 fn tell<D: Display + Drop>(rt: &HostRuntime, text: D) -> Status {
     let status = printed(rt, text);
-    say(rt, status, &[], &KeptInput::Nothing);
+    say(rt, &[], status, &[], &KeptInput::Nothing);
     status
 }
 
 /// Ends without words, and says so to people.
 fn end_without_words(rt: &HostRuntime, error: &io::Error) -> Status {
     let status = status_without_words(error);
-    say(rt, status, &[], &KeptInput::Nothing);
+    say(rt, &[], status, &[], &KeptInput::Nothing);
     status
 }
 

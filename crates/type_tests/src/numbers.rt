@@ -47,10 +47,11 @@ fn has_target(alloc: Global, asn: u32, instance: u16, number: u64, text: &str) -
 }
 
 /// AS numbers and instances, each with the number and the text of its target.
-static TARGETS: [(u32, u16, u64, &str); 6] = [
+static TARGETS: [(u32, u16, u64, &str); 7] = [
     (1, 1, 0x0002_0001_007a_1201, "1:8000001"),
     (64512, 65535, 0x0002_fc00_007b_11ff, "64512:8065535"),
     (65534, 16384, 0x0002_fffe_007a_5200, "65534:8016384"),
+    (65535, 1, 0x0202_0000_ffff_0001, "L65535:1"),
     (65536, 1, 0x0202_0001_0000_0001, "L65536:1"),
     (
         4_200_000_000,

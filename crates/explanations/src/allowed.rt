@@ -1,0 +1,54 @@
+//! Which members an object of a document may have, by the path of one of them.
+ghost use Rattle.std.specs.Prelude.{◌≡◌};
+ghost use Rattle.explanations.specs.Allowed.{allowed_at, listed_members, members_of};
+
+use crate::wanted::{NO_PHRASE, cut_at_point, member_name};
+
+/// The members of the object that a path leads into.
+pub(crate) fn allowed_at(path: &str) -> &'static str
+    ensures { result.now ≡ allowed_at path.now }
+{
+    let (front, _) = cut_at_point(path);
+    let (_, parent) = cut_at_point(front);
+    members_of(member_name(parent))
+}
+
+/// The members of an object: of that which stands in a list of this name, or under it.
+#[tactic(auto, unfolding(crate::specs::Allowed::members_of))]
+fn members_of(parent: &str) -> &'static str
+    ensures { result.now ≡ members_of parent.now }
+{
+    match parent {
+        "" =>
+            "compile and constrain take topology and configuration, reach packets too, scale groups and packets, run events, flows capacity and steps, and graceful takes events alone",
+        "topology" => "as, controllers and nodes",
+        "controllers" => "name and address",
+        "nodes" | "node" => "name, address and controllers",
+        "configuration" => "networks, ports, policies, services and chains",
+        "networks" | "network" => "name, id, subnets and policies",
+        "ports" | "port" => "name, id, network, address and node",
+        "policies" | "policy" => "name, sequence and rules",
+        "rules" =>
+            "direction, source, destination, protocol, source_ports, destination_ports and action, and with the action chain alone chain and use",
+        "services" | "service" => "name, id and node",
+        "chains" | "chain" => "name and hops",
+        _ => listed_members(parent),
+    }
+}
+
+/// Those of what the lists of the commands have, and of the edits in them.
+#[tactic(auto, unfolding(crate::specs::Allowed::listed_members))]
+fn listed_members(parent: &str) -> &'static str
+    ensures { result.now ≡ listed_members parent.now }
+{
+    match parent {
+        "packets" | "trace" => "port, to, protocol, sport and dport",
+        "groups" => "service and members",
+        "events" =>
+            "one of edit, deliver, deliver-bytes, lose, connect, restart, show, trace and break in run, and of opened and update in graceful",
+        "steps" => "one of edit and trace",
+        "edit" => "one of put and delete",
+        "put" | "delete" => "one of network, port, policy, service, chain and node",
+        _ => NO_PHRASE,
+    }
+}
