@@ -1,125 +1,137 @@
-//! What agents keep of verdicts.
-use crate::agents::{N1, TOLD_AT_N1, bring, framed, packet, told_of_a_chain};
-use crate::links::add_queues;
+//! What agents say of packets, and what they keep of that.
+ghost use Rattle.std.specs.Prelude.{◌≤◌};
+
+use crate::answers::begin;
+use crate::fault::{CaseFault, told};
+use crate::words::{address, both, number, octet, short_number};
 use agent_node::AgentNode;
-use ov_link::Links;
-use ov_types::{InstanceId, Outcome, Verdict, Why};
-use packet_trace::{Trace, Vrouter, trace};
+use ov_io::TextOut;
+use ov_types::{Addr, InstanceId, NoMemory, Packet, PortNo, Tuple, Verdict};
+use packet_trace::Vrouter;
 use std::alloc::Global;
-use std::process::Abort;
 
-/// 10.2.0.2, to which the first access list lets packets enter a chain.
-const THERE: u32 = 0x0a02_0002;
+/// What policies look at, of each packet.
+const TUPLE: Tuple = Tuple {
+    proto: 6,
+    sport: 50_000,
+    dport: 80,
+};
 
-/// One row more.
-const ROUTE: &[u8] =
-    b"{\"instance\":1,\"label\":17,\"next_hop\":\"192.0.2.11\",\"op\":\"route\",\"prefix\":\"10.1.0.7/32\"}";
-
-/// The access list has no entry any more, so that packets to it are denied.
-const DENY: &[u8] =
-    b"{\"from\":1,\"op\":\"acl\",\"rules\":[],\"subnets\":[\"10.2.0.0/24\"],\"to\":2}";
-
-/// The control node of the one agent tells a record more.
-fn tell(rt: &impl Abort, alloc: Global, agents: &mut [AgentNode], record: &[u8]) {
-    assert!(rt; agents.len() == 1);
-    let mut links = Links::new(alloc);
-    add_queues(rt, alloc, &mut links, 1);
-    let octets = framed(rt, alloc, &[record]);
-    bring(rt, &mut agents[0], &mut links, 0, octets.as_slice());
+/// A packet that leaves a port.
+pub(crate) fn packet(source: u16, destination: Addr) -> Packet
+    ensures { result.source.0 ≤ 524271 }
+{
+    Packet {
+        source: PortNo(u32::from(source)),
+        destination,
+        tuple: TUPLE,
+    }
 }
 
-/// The one agent keeps this verdict, if one, and no other.
-fn keeps(rt: &impl Abort, agents: &[AgentNode], wanted: Option<Verdict>) {
-    assert!(rt; agents.len() == 1);
-    let mut kept = agents[0].flows();
-    if let Some(verdict) = wanted {
-        match kept.next() {
-            Some((flow, said)) => {
-                assert!(rt; flow.network == InstanceId(1));
-                assert!(rt; flow.destination.0 == THERE);
-                assert!(rt; flow.tuple == packet(1, THERE).tuple);
-                assert!(rt; *said == verdict);
-            }
-            None => assert!(rt; false, "nothing is kept"),
+/// What is said of a packet that leaves a network to an address, with a protocol and a port that it goes to.
+pub(crate) fn tell_verdict(
+    node: &mut AgentNode,
+    given: &str,
+    out: &mut TextOut,
+) -> Result<(), CaseFault> {
+    let (network, rest) = both(given)?;
+    let (destination, rest) = both(rest)?;
+    let (proto, dport) = both(rest)?;
+    let network = InstanceId(short_number(network)?);
+    let mut packet = packet(1, address(destination)?);
+    packet.tuple.proto = octet(proto)?;
+    packet.tuple.dport = short_number(dport)?;
+    let said = node.verdict(network, &packet);
+    told(write!(out, "{said:?}"))
+}
+
+/// One verdict, said of packets to addresses in a row, up or down.
+#[derive(Clone, Copy)]
+struct Span {
+    first: Addr,
+    last: Addr,
+    said: Verdict,
+}
+
+/// One address more of which this is said.
+fn add(spans: &mut Vec<Span>, address: Addr, said: Verdict) -> Result<(), CaseFault> {
+    if let Some(span) = spans.last_mut() {
+        if span.said == said && span.last.0.abs_diff(address.0) == 1 {
+            span.last = address;
+            return Ok(());
         }
     }
-    assert!(rt; kept.next().is_none());
+    let span = Span {
+        first: address,
+        last: address,
+        said,
+    };
+    Ok(spans.push(span)?)
 }
 
-fn was_dropped(rt: &impl Abort, trace: &Trace, wanted: Why) {
-    match &trace.outcome {
-        Outcome::Dropped { why } => assert!(rt; *why == wanted),
-        Outcome::Delivered { .. } => assert!(rt; false, "delivered"),
+fn push_spans(spans: &[Span], out: &mut TextOut) -> Result<(), NoMemory> {
+    for span in spans {
+        let first = span.first;
+        let last = span.last;
+        let said = span.said;
+        begin(out)?;
+        write!(out, "{first}-{last} {said:?}")?;
     }
+    Ok(())
 }
 
-/// A packet is traced twice, then a row comes, then its access list changes.
-fn trace_by_what_is_kept(rt: &impl Abort, alloc: Global, agents: &mut [AgentNode]) {
-    keeps(rt, agents, None);
-    was_dropped(rt, &trace(agents, packet(1, THERE)), Why::NoLabel);
-    was_dropped(rt, &trace(agents, packet(1, THERE)), Why::NoLabel);
-    keeps(rt, agents, Some(Verdict::Enter(InstanceId(16_384))));
-    tell(rt, alloc, agents, ROUTE);
-    keeps(rt, agents, Some(Verdict::Enter(InstanceId(16_384))));
-    tell(rt, alloc, agents, DENY);
-    keeps(rt, agents, None);
-    let denied = trace(agents, packet(1, THERE));
-    was_dropped(rt, &denied, Why::Denied { rule: None });
-    keeps(rt, agents, Some(Verdict::Denied { rule: None }));
+fn ask(
+    node: &mut AgentNode,
+    network: InstanceId,
+    first: Addr,
+    count: u32,
+    spans: &mut Vec<Span>,
+) -> Result<(), CaseFault> {
+    for place in 0..count {
+        let address = Addr(first.0.wrapping_add(place));
+        let said = node.verdict(network, &packet(1, address));
+        add(spans, address, said)?;
+    }
+    Ok(())
 }
 
-/// The one agent, whose slice has the access lists of a chain.
-fn with_lists(rt: &impl Abort, alloc: Global) -> AgentNode {
-    told_of_a_chain(rt, alloc, N1, &TOLD_AT_N1)
+/// What is said of packets that leave a network to so many addresses, from one on.
+pub(crate) fn tell_verdicts(
+    alloc: Global,
+    node: &mut AgentNode,
+    given: &str,
+    out: &mut TextOut,
+) -> Result<(), CaseFault> {
+    let (network, addresses) = both(given)?;
+    let (first, count) = both(addresses)?;
+    let network = InstanceId(short_number(network)?);
+    let mut spans = Vec::new(alloc);
+    ask(node, network, address(first)?, number(count)?, &mut spans)?;
+    told(push_spans(&spans, out))
 }
 
-#[test]
-fn a_packet_traced_twice_leaves_one_verdict_until_its_list_changes(rt: HostRuntime) {
-    let alloc = rt.alloc();
-    let node = with_lists(&rt, alloc);
-    trace_by_what_is_kept(&rt, alloc, &mut [node]);
-}
-
-/// What is kept are the verdicts of 10.1.0.1 to 10.1.4.0, the last first.
-fn keeps_the_last(rt: &impl Abort, node: &AgentNode) {
-    let mut wanted = 0x0a01_0400u32;
+/// Adds what is kept of the packets of network 1, and says whether something else is kept.
+fn keep(node: &AgentNode, spans: &mut Vec<Span>) -> Result<bool, CaseFault> {
+    let mut has_others = false;
     for (flow, said) in node.flows() {
-        assert!(rt; flow.destination.0 == wanted);
-        assert!(rt; *said == says(wanted));
-        wanted = wanted.wrapping_sub(1);
+        if flow.network == InstanceId(1) && flow.tuple == TUPLE {
+            add(spans, flow.destination, *said)?;
+        } else {
+            has_others = true;
+        }
     }
-    assert!(rt; wanted == 0x0a01_0000);
+    Ok(has_others)
 }
 
-/// The subnet of network 1 is 10.1.0.0/24.
-fn says(destination: u32) -> Verdict {
-    if destination < 0x0a01_0100 {
-        Verdict::Pass
-    } else {
-        Verdict::NoDestination
+/// What is kept of the packets of network 1, the last first.
+pub(crate) fn tell_flows(
+    alloc: Global,
+    node: &AgentNode,
+    out: &mut TextOut,
+) -> Result<(), CaseFault> {
+    let mut spans = Vec::new(alloc);
+    if keep(node, &mut spans)? {
+        out.push(b"flows of another kind")?;
     }
-}
-
-/// 1,025 packets leave network 1, and then one of those that are kept again.
-fn keep_so_many(rt: &impl Abort, node: &mut AgentNode) {
-    for host in 0..1025u32 {
-        let destination = 0x0a01_0000 + host;
-        let said = node.verdict(InstanceId(1), &packet(1, destination));
-        assert!(rt; said == says(destination));
-    }
-    keeps_the_last(rt, node);
-    let again = node.verdict(InstanceId(1), &packet(1, 0x0a01_0001));
-    assert!(rt; again == Verdict::Pass);
-    match node.flows().next() {
-        Some((flow, _)) => assert!(rt; flow.destination.0 == 0x0a01_0001),
-        None => assert!(rt; false, "nothing is kept"),
-    }
-    node.restart();
-    assert!(rt; node.flows().next().is_none());
-}
-
-#[test]
-fn of_more_verdicts_than_are_kept_the_first_is_gone(rt: HostRuntime) {
-    let mut node = with_lists(&rt, rt.alloc());
-    keep_so_many(&rt, &mut node);
+    told(push_spans(&spans, out))
 }

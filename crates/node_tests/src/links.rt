@@ -1,31 +1,75 @@
-//! Links of nodes, and what was sent on them.
-use ov_link::{Links, QueueLink};
-use std::alloc::Global;
-use std::process::Abort;
+//! The links of a node, and what was sent on them.
 
-/// So many links more, on which nothing fails.
-pub fn add_queues(rt: &impl Abort, alloc: Global, links: &mut Links<QueueLink>, count: u16) {
-    for _ in 0..count {
-        assert!(rt; links.len() < 9);
-        links.push(QueueLink::new(alloc)).expect(rt, "memory");
+use crate::answers::begin;
+use crate::fault::{CaseFault, told};
+use crate::octets::push_message;
+use crate::words::number;
+use ov_io::TextOut;
+use ov_link::{FailingLink, Links};
+use ov_types::NoMemory;
+use std::alloc::Global;
+
+/// So many links, on which nothing is to fail.
+pub(crate) fn with_count(alloc: Global, count: u16) -> Result<Links<FailingLink>, CaseFault> {
+    let mut links = Links::new(alloc);
+    match add(alloc, count, &mut links) {
+        Ok(()) => Ok(links),
+        Err(fault) => Err(fault),
     }
 }
 
-/// The messages on the link of a session are these. They are taken out.
-pub fn were_sent(rt: &impl Abort, links: &mut Links<QueueLink>, session: u16, messages: &[&[u8]]) {
-    assert!(rt; session < links.len());
+fn add(alloc: Global, count: u16, links: &mut Links<FailingLink>) -> Result<(), CaseFault> {
+    for _link in 0..count {
+        if links.len() == u16::MAX {
+            return Err(CaseFault::Unreadable);
+        }
+        links.push(FailingLink::new(alloc))?;
+    }
+    Ok(())
+}
+
+/// Makes a step on the link of a session.
+pub(crate) fn make_on(
+    links: &mut Links<FailingLink>,
+    session: u16,
+    word: &str,
+    given: &str,
+    out: &mut TextOut,
+) -> Result<(), CaseFault> {
+    if session >= links.len() {
+        return Err(CaseFault::Unreadable);
+    }
     let link = links.get_mut(session);
-    for message in messages {
-        match link.pop() {
-            Some(sent) => assert!(rt; sent.as_slice() == *message, "{session}"),
-            None => assert!(rt; false, "{session} has fewer messages"),
+    match word {
+        "sent" => told(push_sent(link, out)),
+        "forget" => told(forget(link, out)),
+        "break" => fail_at(link, number(given)?, out),
+        _ => Err(CaseFault::Unreadable),
+    }
+}
+
+/// Takes out what was sent, and tells it.
+fn push_sent(link: &mut FailingLink, out: &mut TextOut) -> Result<(), NoMemory> {
+    for _message in 0..link.len() {
+        if let Some(message) = link.pop() {
+            begin(out)?;
+            push_message(message.as_slice(), out)?;
         }
     }
-    assert!(rt; link.len() == 0, "{session} has more messages");
+    Ok(())
 }
 
-/// Lets what was sent on a session be.
-pub fn forget(rt: &impl Abort, links: &mut Links<QueueLink>, session: u16) {
-    assert!(rt; session < links.len());
-    links.get_mut(session).clear();
+/// Lets what was sent be.
+fn forget(link: &mut FailingLink, out: &mut TextOut) -> Result<(), NoMemory> {
+    link.clear();
+    out.push(b"done")
+}
+
+/// Of the sends from now on the nth is to fail.
+fn fail_at(link: &mut FailingLink, n: u32, out: &mut TextOut) -> Result<(), CaseFault> {
+    if n == 0 {
+        return Err(CaseFault::Unreadable);
+    }
+    link.add_break(n)?;
+    told(out.push(b"done"))
 }
