@@ -1,5 +1,5 @@
 -- Octets that put or drop some routes alone, and ends that are told all.
-use Rattle.std.specs.Prelude.{◌≡◌, ◌<◌, ◌≤◌, ℕ, zero, suc, List, [], ◌∷◌, map, length, Bool, true, false, cond, is_some, nat_lt}
+use Rattle.std.specs.Prelude.{◌≡◌, ◌<◌, ◌≤◌, ℕ, zero, suc, List, [], ◌∷◌, map, length, Bool, true, false, cond, is_some, nat_lt, take, ◌==◌, ◌||◌}
 use Rattle.std.specs.declared.option.Option.{Option}
 use Rattle.std.specs.declared.option.Option.TheVariants.{Some, None}
 use Rattle.std.specs.declared.result.Result.{Result}
@@ -13,6 +13,9 @@ use Rattle.std.proofs.lemmas.Bool.{ltb-true}
 use Rattle.std.proofs.lemmas.List.{get_or-map, get_or_past, length-set}
 use Rattle.ov_sync.specs.Keyed.{after}
 use Rattle.ov_sync.proofs.KeyedLaws.{difference-itself}
+use Rattle.ov_types.specs.declared.objects.LowKey.{LowKey}
+use Rattle.ov_types.specs.declared.objects.LowValue.{LowValue}
+use Rattle.ov_types.specs.declared.rows.AgentRows.{AgentRows}
 use Rattle.item_wire.specs.declared.item.Item.{Item}
 use Rattle.node_core.specs.Plans.{ArePlans}
 use Rattle.node_core.specs.declared.ends.Plan.{Plan}
@@ -20,17 +23,17 @@ use Rattle.node_items.specs.Beginning.{phase_of}
 use Rattle.node_items.specs.Told.{change_of, down_of, spelled, up_of}
 use Rattle.node_laws.specs.Stepped.{AreTold, HoldTheSame}
 use Rattle.node_laws.proofs.AtTheEnd.{seen_alike}
-use Rattle.node_core.specs.NodeModel.Agent.{Holdings, told_of as told_by}
+use Rattle.node_core.specs.NodeModel.Agent.{Holdings, acl_entry, attached, needed_by, slice_in_use, told_of as told_by}
 use Rattle.node_core.specs.NodeModel.Keys.{Row}
-use Rattle.node_core.specs.NodeModel.Maps.{Change, Map, difference}
+use Rattle.node_core.specs.NodeModel.Maps.{Change, Map, difference, objects}
 use Rattle.node_core.specs.NodeModel.Step.{Post, nothing, post}
 use Rattle.node_core.specs.NodeModel.Values.{same_value}
 use Rattle.node_core.proofs.NodeModel.Alike.{same_value_decides}
-use Rattle.agent_tables.specs.Touched.{AgreeBut, RowKey, SameRoutes, route_key}
+use Rattle.agent_tables.specs.Touched.{AgreeBut, AreTables, RowKey, SameRoutes, Tabled, route_key}
 use Rattle.agent_tables.specs.Views.{heard_of, is_up as is_heard_up}
 use Rattle.agent_tables.specs.declared.hearing.Hearing.{Hearing}
-use Rattle.agent_tables.proofs.Touched.{MapsAgreeBut, all_changed, all_stay, same_slice, session_changed, session_stays}
-use Rattle.agent_node.specs.Applying.{AreLed, HasKeptRoutes, HasLed}
+use Rattle.agent_tables.proofs.Touched.{MapsAgreeBut, all_changed, all_stay, objects_set, same_slice, session_changed, session_stays}
+use Rattle.agent_node.specs.Applying.{AreLed, HasKeptRoutes, HasLed, HaveKeptRoutes, HaveKeptSlice, is_in_use}
 use Rattle.agent_node.specs.Core.{heard_at, holdings, is_up, kind, may_send, wanted}
 use Rattle.agent_node.specs.Ends.{AreEnds, Sent, end_at, posts_of}
 use Rattle.agent_node.specs.Planning.{AreSilent, sent_at}
@@ -79,42 +82,111 @@ map_set (g ∷ hs) (suc i) h = ap (λ (l : Holdings). heard_of g ∷ l) (map_set
 
 -- ---- all ends
 module _ (plan : AgentPlan) (hs : List Hearing) (ss : List Sent) (ends : AreEnds plan hs ss) (i : ℕ) (h : Hearing)
-    (lt : i < length hs) (is : h ≡ slice_index_or hs i h) (h' : Hearing) (keys : List RowKey) where
-  pub are_led : HasLed keys h h' → AreLed keys i (posts_of hs ss) (posts_of (set hs i h') ss)
-  are_led t =
+    (lt : i < length hs) (is : h ≡ slice_index_or hs i h) (h' : Hearing) where
+  -- an end that stays in its state holds something else alone
+  held_alone : h'.session.state ≡ h.session.state
+      → posts_of (set hs i h') ss ≡ set (posts_of hs ss) i (record (post (posts_of hs ss) i) { held = down_of h'.held })
+  held_alone state =
       let same : end_at h (sent_at ss i) ≡ post (posts_of hs ss) i = here plan hs ss ends i h lt is in
+      posts_hear hs ss i h'
+      ∙ (λ j. set (posts_of hs ss) i (record {
+        phase = phase_of (state j);
+        sent = up_of (sent_at ss i);
+        held = down_of h'.held;
+        wide = false;
+      }))
+      ∙ (λ j. set (posts_of hs ss) i (record {
+        phase = (same j).phase;
+        sent = (same j).sent;
+        held = down_of h'.held;
+        wide = (same j).wide;
+      }))
+
+  pub are_led : (keys : List RowKey) → HasLed keys h h' → AreLed keys i (posts_of hs ss) (posts_of (set hs i h') ss)
+  are_led keys t =
       let agree : AgreeBut keys (map heard_of hs) (set (map heard_of hs) i (heard_of h')) =
       session_changed (map heard_of hs) i (heard_of h) (heard_of h') keys
       (λ d. get_or-map heard_of hs i h d lt ∙ ap heard_of (sym is)) (ap is_heard_up t.state)
       (record { objects_same = t.objects_same; rows_same = t.rows_same }) in
       record {
         held = down_of h'.held;
-        left = posts_hear hs ss i h'
-            ∙ (λ j. set (posts_of hs ss) i (record {
-              phase = phase_of (t.state j);
-              sent = up_of (sent_at ss i);
-              held = down_of h'.held;
-              wide = false;
-            }))
-            ∙ (λ j. set (posts_of hs ss) i (record {
-              phase = (same j).phase;
-              sent = (same j).sent;
-              held = down_of h'.held;
-              wide = (same j).wide;
-            }));
+        left = held_alone t.state;
         agree = subst (λ (p : Holdings × Holdings). AgreeBut keys p.0 p.1)
             (λ j. (sym (holdings_as hs ss) j, (sym (map_set hs i h') ∙ sym (holdings_as (set hs i h') ss)) j)) agree;
       }
 
-module _ (plan : AgentPlan) (hs : List Hearing) (ss : List Sent) (ends : AreEnds plan hs ss) (i : ℕ) (h : Hearing)
-    (lt : i < length hs) (is : h ≡ slice_index_or hs i h) (h' : Hearing) where
-  pub routes_kept : HasKeptRoutes h h' → SameRoutes (holdings (posts_of hs ss)) (holdings (posts_of (set hs i h') ss))
+  pub routes_kept : HasKeptRoutes h h' → HaveKeptRoutes i (posts_of hs ss) (posts_of (set hs i h') ss)
   routes_kept t =
       let same : SameRoutes (map heard_of hs) (set (map heard_of hs) i (heard_of h')) =
       session_stays (map heard_of hs) i (heard_of h) (heard_of h')
       (λ d. get_or-map heard_of hs i h d lt ∙ ap heard_of (sym is)) (ap is_heard_up t.state) t.rows_same in
-      subst (λ (p : Holdings × Holdings). SameRoutes p.0 p.1)
-      (λ j. (sym (holdings_as hs ss) j, (sym (map_set hs i h') ∙ sym (holdings_as (set hs i h') ss)) j)) same
+      record {
+        held = down_of h'.held;
+        left = held_alone t.state;
+        same = subst (λ (p : Holdings × Holdings). SameRoutes p.0 p.1)
+            (λ j. (sym (holdings_as hs ss) j, (sym (map_set hs i h') ∙ sym (holdings_as (set hs i h') ss)) j)) same;
+      }
+
+-- ---- the slice in use
+in_use_behind : (h : Hearing) (hs : List Hearing) (ss : List Sent) (n : ℕ) (d : Hearing)
+    → is_in_use (posts_of hs ss) n
+    ≡ cond (list_any (λ (h : Hearing). is_up (phase_of h.session.state)) (take n hs)) false
+    (is_up (phase_of (slice_index_or hs n d).session.state))
+    → cond (is_up (phase_of h.session.state)) false (is_in_use (posts_of hs ss) n)
+    ≡ cond (is_up (phase_of h.session.state)
+    || list_any (λ (h : Hearing). is_up (phase_of h.session.state)) (take n hs)) false
+    (is_up (phase_of (slice_index_or hs n d).session.state))
+in_use_behind h hs ss n d rest =
+    let any : Bool = list_any (λ (h : Hearing). is_up (phase_of h.session.state)) (take n hs) in
+    let here : Bool = is_up (phase_of (slice_index_or hs n d).session.state) in
+    elim (is_up (phase_of h.session.state)) as (λ b. cond b false (is_in_use (posts_of hs ss) n) ≡ cond (b || any) false here) [
+      | true ↦ refl
+      | false ↦ rest
+    ]
+
+pub in_use_as : (hs : List Hearing) (ss : List Sent) (n : ℕ) (d : Hearing) → n < length hs
+    → is_in_use (posts_of hs ss) n
+    ≡ cond (list_any (λ (h : Hearing). is_up (phase_of h.session.state)) (take n hs)) false
+    (is_up (phase_of (slice_index_or hs n d).session.state))
+in_use_as [] ss n d lt = absurd (omega arith)
+in_use_as (h ∷ hs) [] zero d lt = refl
+in_use_as (h ∷ hs) (s ∷ ss) zero d lt = refl
+in_use_as (h ∷ hs) [] (suc n) d lt = in_use_behind h hs [] n d (in_use_as hs [] n d (omega arith))
+in_use_as (h ∷ hs) (s ∷ ss) (suc n) d lt = in_use_behind h hs ss n d (in_use_as hs ss n d (omega arith))
+
+-- what a session holds whose slice is not in use does not matter to the slice in use
+pub slice_apart : (posts : List Post) (i : ℕ) (m : Map) → is_in_use posts i ≡ false
+    → slice_in_use (holdings posts) ≡ slice_in_use (holdings (set posts i (record (post posts i) { held = m })))
+slice_apart [] i m e = refl
+slice_apart (p ∷ posts) zero m e =
+    ap (λ b. cond b (objects p.held) (slice_in_use (holdings posts))) e
+    ∙ sym (ap (λ b. cond b (objects m) (slice_in_use (holdings posts))) e)
+slice_apart (p ∷ posts) (suc i) m e =
+    elim (is_up p.phase) as (λ b. cond b false (is_in_use posts i) ≡ false
+    → cond b (objects p.held) (slice_in_use (holdings posts))
+    ≡ cond b (objects p.held) (slice_in_use (holdings (set posts i (record (post posts i) { held = m }))))) [
+      | true ↦ λ e. refl
+      | false ↦ λ e. slice_apart posts i m e
+    ] e
+
+pub slice_kept : (s : ℕ) (posts posts' : List Post) → is_in_use posts s ≡ false → HaveKeptRoutes s posts posts'
+    → HaveKeptSlice s posts posts'
+slice_kept s posts posts' apart kept = record {
+  held = kept.held;
+  left = kept.left;
+  same = kept.same;
+  slice = slice_apart posts s kept.held apart ∙ ap (λ (ps : List Post). slice_in_use (holdings ps)) (sym kept.left);
+}
+
+pub tables_kept : (s : ℕ) (posts posts' : List Post) (t : Tabled) → HaveKeptSlice s posts posts'
+    → AreTables (holdings posts) t → AreTables (holdings posts') t
+tables_kept s posts posts' t kept are =
+    let slice = kept.slice in
+    objects_set (holdings posts) (holdings posts') t t are kept.same
+    (λ i. are.instances i ∙ ap (λ (es : List (LowKey × LowValue)). list_any (λ n. n.0 == i.0) (needed_by es)) slice)
+    (ap (λ (r : AgentRows). r.labels) are.rows ∙ ap (filter_map (λ (e : LowKey × LowValue). attached e.0 e.1)) slice)
+    (ap (λ (r : AgentRows). r.acls) are.rows ∙ ap (filter_map (λ (e : LowKey × LowValue). acl_entry e.0 e.1)) slice)
+    refl refl
 
 -- ---- what was told stays told
 same_at : (posts : List Post) (s : ℕ) (m : Map) (j : ℕ)
@@ -126,16 +198,22 @@ same_at (p ∷ posts) zero m (suc j) = (refl, refl)
 same_at (p ∷ posts) (suc s) m zero = (refl, refl)
 same_at (p ∷ posts) (suc s) m (suc j) = same_at posts s m j
 
-pub told_on : (keys : List RowKey) (s : ℕ) (posts posts' : List Post) → AreLed keys s posts posts' → AreTold kind posts
-    → AreTold kind posts'
-told_on keys s posts posts' led told j lt may =
+pub told_kept : (s : ℕ) (posts posts' : List Post) (held : Map)
+    → posts' ≡ set posts s (record (post posts s) { held = held })
+    → slice_in_use (holdings posts) ≡ slice_in_use (holdings posts') → AreTold kind posts → AreTold kind posts'
+told_kept s posts posts' held left slice told j lt may =
     let at : (j : ℕ) → ((post posts' j).phase ≡ (post posts j).phase) × ((post posts' j).sent ≡ (post posts j).sent) =
     λ j. subst (λ (ps : List Post). ((post ps j).phase ≡ (post posts j).phase) × ((post ps j).sent ≡ (post posts j).sent))
-    (sym led.left) (same_at posts s led.held j) in
-    let long : length posts' ≡ length posts = ap length led.left ∙ length-set posts s (record (post posts s) { held = led.held }) in
+    (sym left) (same_at posts s held j) in
+    let long : length posts' ≡ length posts = ap length left ∙ length-set posts s (record (post posts s) { held = held }) in
     (at j).1
     ∙ told j (subst (λ n. j < n) long lt) (ap (may_send j) (sym (at j).0) ∙ may)
-    ∙ ap told_by (same_slice (holdings posts) (holdings posts') led.agree.besides)
+    ∙ ap told_by slice
+
+pub told_on : (keys : List RowKey) (s : ℕ) (posts posts' : List Post) → AreLed keys s posts posts' → AreTold kind posts
+    → AreTold kind posts'
+told_on keys s posts posts' led told =
+    told_kept s posts posts' led.held led.left (same_slice (holdings posts) (holdings posts') led.agree.besides) told
 
 -- ---- plans where all is told
 no_changes : (wants sent : Map) (b : Bool) → (b ≡ true → sent ≡ wants)

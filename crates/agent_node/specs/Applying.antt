@@ -1,5 +1,5 @@
 -- What octets make of what is held at an end.
-use Rattle.std.specs.Prelude.{◌≡◌, ℕ, List, Option, Some, None, false}
+use Rattle.std.specs.Prelude.{◌≡◌, ℕ, zero, suc, List, [], ◌∷◌, Bool, Option, Some, None, false, if◌then◌else◌}
 use Rattle.std.specs.FinMap.{get}
 use Rattle.std.specs.List.{filter_map, slice_set}
 use Rattle.ov_sync.specs.Keyed.{after, changed}
@@ -12,10 +12,11 @@ use Rattle.node_items.specs.Told.{change_of, down_of}
 use Rattle.node_core.specs.NodeModel.Keys.{Row}
 use Rattle.node_core.specs.NodeModel.Maps.{Change, Map, objects}
 use Rattle.node_core.specs.NodeModel.Step.{Post, post}
-use Rattle.agent_tables.specs.Touched.{AgreeBut, RowKey, is_among}
+use Rattle.node_core.specs.NodeModel.Agent.{slice_in_use}
+use Rattle.agent_tables.specs.Touched.{AgreeBut, RowKey, SameRoutes, is_among}
 use Rattle.agent_tables.specs.declared.hearing.Hearing.{Hearing}
 use Rattle.agent_node.specs.Beginning.{session_at}
-use Rattle.agent_node.specs.Core.{holdings}
+use Rattle.agent_node.specs.Core.{holdings, is_up}
 use Rattle.agent_node.specs.declared.plan.AgentPlan.{AgentPlan}
 
 abbrev pub changed_by : Option Change → Map → Map
@@ -54,3 +55,23 @@ pub record AreLed (keys : List RowKey) (session : ℕ) (posts posts' : List Post
 pub record HasKeptRoutes (h h' : Hearing) : Type 0 where
   pub state : h'.session.state ≡ h.session.state
   pub rows_same : (k : RowKey) → get (down_of h.held) (Row k.0 k.1) ≡ get (down_of h'.held) (Row k.0 k.1)
+
+-- of all ends that of the session alone holds something else, and that the same routes
+pub record HaveKeptRoutes (session : ℕ) (posts posts' : List Post) : Type 0 where
+  pub held : Map
+  pub left : posts' ≡ slice_set posts session (record (post posts session) { held = held })
+  pub same : SameRoutes (holdings posts) (holdings posts')
+
+-- ---- octets of a session whose slice is not in use
+-- the slice of a session is in use: it is up, and none before it
+abbrev pub is_in_use : List Post → ℕ → Bool
+is_in_use [] session = false
+is_in_use (p ∷ posts) zero = is_up p.phase
+is_in_use (p ∷ posts) (suc session) = if is_up p.phase then false else is_in_use posts session
+
+-- of all ends that of the session alone holds something else, and that the same routes; the slice in use is as it was
+pub record HaveKeptSlice (session : ℕ) (posts posts' : List Post) : Type 0 where
+  pub held : Map
+  pub left : posts' ≡ slice_set posts session (record (post posts session) { held = held })
+  pub same : SameRoutes (holdings posts) (holdings posts')
+  pub slice : slice_in_use (holdings posts) ≡ slice_in_use (holdings posts')

@@ -15,7 +15,8 @@ ghost use Rattle.node_core.specs.NodeModel.Step.{Beginning, Idle, Opened, post};
 ghost use Rattle.agent_node.specs.Beginning.{BeginsKeeping};
 ghost use Rattle.agent_node.specs.Core.{holdings, is_idle, sessions};
 ghost use Rattle.agent_node.specs.Ends.{HeldFits, whom};
-ghost use Rattle.agent_node.specs.Applying.{AreLed, HasHeard, HasKeptRoutes, HasLed, HasTaken, changed_by};
+ghost use Rattle.agent_node.specs.Applying.{AreLed, HasHeard, HasKeptRoutes, HasLed, HasTaken, HaveKeptRoutes, HaveKeptSlice};
+ghost use Rattle.agent_node.specs.Applying.{changed_by};
 ghost use Rattle.agent_tables.specs.Touched.{SameRoutes, route_key};
 
 use crate::ends::AgentEnds;
@@ -130,6 +131,15 @@ fn routes_stay(before: ItemState, after: ItemState, items: &[Item]) -> bool
     }
 }
 
+/// Whether records leave the slice in use as it was, with every route: where they put and drop no route on a session
+/// whose slice is not the one in use.
+fn slice_stays(routes_stay: bool, in_use: bool) -> bool
+    ensures routes { IsTrue result → IsTrue routes_stay }
+    ensures slice { IsTrue result → in_use ≡ false }
+{
+    if in_use { false } else { routes_stay }
+}
+
 /// What octets came to at an end.
 #[derive(Drop)]
 struct Taken {
@@ -189,6 +199,8 @@ pub(crate) struct Applied {
     pub(crate) routes: Option<Vec<(InstanceId, Prefix)>>,
     /// Whether it put and dropped no route, and left its session as it was.
     pub(crate) routes_stay: bool,
+    /// Whether it did so on a session whose slice is not in use.
+    pub(crate) slice_stays: bool,
 }
 
 impl AgentEnds {
@@ -215,7 +227,7 @@ impl AgentEnds {
         ensures led { IfOk result (λ came. IfSome came.routes (λ keys.
             AreLed keys.items session self.old.posts self.new.posts)) }
         ensures stay { IfOk result (λ came. IsTrue came.routes_stay
-            → SameRoutes (holdings self.old.posts) (holdings self.new.posts)) }
+            → HaveKeptRoutes session self.old.posts self.new.posts) }
     {
         let Taken {
             taken,
@@ -258,6 +270,8 @@ impl AgentEnds {
             AreLed keys.items (session_of input.entry) self.old.posts self.new.posts)) }
         ensures stay { IfOk result (λ applied. IsTrue applied.routes_stay
             → SameRoutes (holdings self.old.posts) (holdings self.new.posts)) }
+        ensures slice { IfOk result (λ applied. IsTrue applied.slice_stays
+            → HaveKeptSlice (session_of input.entry) self.old.posts self.new.posts) }
     {
         let alloc = self.alloc;
         match input {
@@ -271,9 +285,11 @@ impl AgentEnds {
                     },
                     routes: None,
                     routes_stay: false,
+                    slice_stays: false,
                 })
             }
             Input::Bytes { session, bytes } => {
+                let in_use = self.is_in_use(session);
                 let Taken {
                     taken,
                     cause,
@@ -288,6 +304,7 @@ impl AgentEnds {
                     },
                     routes,
                     routes_stay,
+                    slice_stays: slice_stays(routes_stay, in_use),
                 })
             }
             Input::Closed { session } => {
@@ -300,6 +317,7 @@ impl AgentEnds {
                     },
                     routes: None,
                     routes_stay: false,
+                    slice_stays: false,
                 })
             }
         }

@@ -1,5 +1,6 @@
 //! The ends of an agent's sessions.
 ghost use Rattle.std.specs.Prelude.{◌≡◌, ◌≤◌, ◌<◌, [], length, slice_set, IfOk, OnOk};
+ghost use Rattle.std.specs.List.{list_any};
 ghost use Rattle.item_wire.specs.Happenings.{after};
 ghost use Rattle.item_wire.specs.declared.input.Came.TheVariants.{Closed};
 ghost use Rattle.node_core.specs.Plans.{ArePlans};
@@ -8,7 +9,8 @@ ghost use Rattle.node_items.specs.Beginning.{phase_of};
 ghost use Rattle.node_core.specs.NodeModel.Step.{nothing, post};
 ghost use Rattle.flow_acl.specs.Flows.{AreOf};
 ghost use Rattle.agent_tables.specs.Touched.{AreTables, HaveRoutes, with_routes};
-ghost use Rattle.agent_node.specs.Core.{holdings, kind, nothings, sessions};
+ghost use Rattle.agent_node.specs.Applying.{is_in_use};
+ghost use Rattle.agent_node.specs.Core.{holdings, is_up, kind, nothings, sessions};
 
 use crate::plan::AgentPlan;
 use crate::planning::plan_all;
@@ -52,6 +54,23 @@ fn shut(hearing: &mut Hearing, sent: &mut SyncOut<UpKey, Label>)
     let _down = hearing.session.closed();
     hearing.held.reset();
     sent.reset();
+}
+
+fn is_up(hearing: &Hearing) -> bool
+    ensures { result ≡ is_up (phase_of hearing.now.session.state) }
+{
+    matches!(hearing.session.state(), ItemState::Up)
+}
+
+fn is_any_up(hearings: &[Hearing]) -> bool
+    ensures { result ≡ list_any (λ h. is_up (phase_of h.session.state)) hearings.now }
+{
+    for hearing in hearings {
+        if is_up(hearing) {
+            return true;
+        }
+    }
+    false
 }
 
 /// The end whose session is in this state.
@@ -103,6 +122,18 @@ impl AgentEnds {
         ensures { result ≡ end_at (post self.now.posts session).phase }
     {
         end_in(self.hearings[usize::from(session)].session.state())
+    }
+
+    /// Whether the slice of a session is the one in use: whether it is up, and none before it.
+    pub(crate) fn is_in_use(&self, session: u16) -> bool
+        requires { session < sessions self.now.plan }
+        ensures { result ≡ is_in_use self.now.posts session }
+    {
+        let index = usize::from(session);
+        if is_any_up(&self.hearings[..index]) {
+            return false;
+        }
+        is_up(&self.hearings[index])
     }
 
     /// What each session is to be told, which counts as sent from then on, where the session may send.
@@ -167,6 +198,7 @@ impl AgentEnds {
         ensures set { OnOk result (HaveRoutes (holdings self.now.posts) tables.old
             → AreTables (holdings self.now.posts) tables.new) }
         ensures kept { AreOf tables.new.rows.acls flows.new }
+        ensures stays { tables.new.rows.acls ≡ tables.old.rows.acls → flows.new ≡ flows.old }
     {
         tables.set_objects(flows, self.alloc, &self.hearings)
     }

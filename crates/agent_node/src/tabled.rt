@@ -27,7 +27,8 @@ use std::alloc::Global;
 use std::marker::Model;
 
 /// The ends of all sessions, and the tables of what they hold. An input that puts or drops routes alone changes their
-/// rows alone, and tells nothing. One that puts and drops no route leaves the routes of the instances that stay needed.
+/// rows alone, and tells nothing. One that puts and drops no route leaves the routes of the instances that stay needed;
+/// where its session's slice is not in use, it changes no table and tells nothing.
 #[derive(Drop)]
 pub(crate) struct TabledEnds {
     ends: AgentEnds,
@@ -103,6 +104,7 @@ fn renew(
     ensures set { OnOk result ((routed ≡ true → HaveRoutes (holdings ends.now.posts) tables.old)
         → AreTables (holdings ends.now.posts) tables.new) }
     ensures kept { AreOf tables.new.rows.acls flows.new }
+    ensures stays { tables.new.rows.acls ≡ tables.old.rows.acls → flows.new ≡ flows.old }
 {
     if routed {
         return ends.set_objects(tables, flows);
@@ -113,11 +115,11 @@ fn renew(
 }
 
 /// Whether both hold.
-fn are_both(current: bool, routes_stay: bool) -> bool
-    ensures current { result ≡ true → current ≡ true }
-    ensures stay { result ≡ true → routes_stay ≡ true }
+fn are_both(before: bool, stays: bool) -> bool
+    ensures before { result ≡ true → before ≡ true }
+    ensures stay { result ≡ true → stays ≡ true }
 {
-    if current { routes_stay } else { false }
+    if before { stays } else { false }
 }
 
 impl Ends for TabledEnds {
@@ -161,9 +163,12 @@ impl Ends for TabledEnds {
             started,
             routes,
             routes_stay,
+            slice_stays,
         } = applied?;
         let Some(routes) = routes else {
+            self.current = are_both(current, slice_stays);
             self.routed = are_both(current, routes_stay);
+            self.told = are_both(told, slice_stays);
             return Ok(started);
         };
         lead(&self.ends, &mut self.tables, &routes, current)?;
@@ -226,13 +231,15 @@ impl TabledEnds {
         self.ends.address()
     }
 
-    /// Forwards by what is held from now on. What is kept of verdicts goes where the access lists change.
+    /// Forwards by what is held from now on. What is kept of verdicts goes where the access lists change, and stays where
+    /// they do.
     pub(crate) fn renew(&mut self, flows: &mut FlowCache) -> Result<(), NoMemory>
         requires { AreOf self.old.rows.acls flows.old }
         ensures plan { self.new.plan ≡ self.old.plan }
         ensures posts { self.new.posts ≡ self.old.posts }
         ensures rows { OnOk result (self.new.rows ≡ rows_of (holdings self.old.posts)) }
         ensures kept { AreOf self.new.rows.acls flows.new }
+        ensures stays { self.new.rows.acls ≡ self.old.rows.acls → flows.new ≡ flows.old }
     {
         if self.current {
             return Ok(());

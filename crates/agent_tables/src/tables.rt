@@ -104,6 +104,7 @@ impl AgentTables {
             → AreTables (map heard_of sessions.now) self.new) }
         ensures unchanged { OnErr result (self.new ≡ self.old) }
         ensures kept { AreOf self.new.rows.acls flows.new }
+        ensures stays { self.new.rows.acls ≡ self.old.rows.acls → flows.new ≡ flows.old }
     {
         let tables = slice_tables(alloc, sessions)?;
         let same = have_same_instances(alloc, &self.fibs, &tables.fibs)?;
@@ -127,6 +128,7 @@ impl AgentTables {
           };
         } }
         ensures kept { AreOf self.new.rows.acls flows.new }
+        ensures stays { self.new.rows.acls ≡ self.old.rows.acls → flows.new ≡ flows.old }
     {
         let SliceTables { labels, acls, .. } = tables;
         if !self.acls.is(&acls) {
@@ -187,6 +189,7 @@ impl AgentTables {
         requires { AreOf self.old.rows.acls flows.old }
         ensures tables { self.new ≡ tables }
         ensures kept { AreOf self.new.rows.acls flows.new }
+        ensures stays { self.new.rows.acls ≡ self.old.rows.acls → flows.new ≡ flows.old }
     {
         if !self.acls.is(&tables.acls) {
             flows.clear();

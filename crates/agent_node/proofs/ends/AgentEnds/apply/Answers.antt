@@ -1,8 +1,10 @@
-use Rattle.std.specs.Prelude.{[]}
+use Rattle.std.proofs.Common.{ℕ, [], ap, sym, subst, ◌∙◌}
 use Rattle.node_core.specs.Whole.{session_of}
 use Rattle.node_core.specs.NodeModel.Step.{post}
 use Rattle.node_items.proofs.Begun.{begun_bytes, begun_closed, begun_opened, left_few}
+use Rattle.agent_node.specs.Applying.{HaveKeptSlice}
 use Rattle.agent_node.specs.Beginning.{session_at}
+use Rattle.agent_node.proofs.Led.{slice_kept}
 use Rattle.agent_node.proofs.ends.AgentEnds.apply.Goals as goal
 
 pub returns-in_ok-replies-in-Opened-clause-begins : goal.returns-in_ok-replies-in-Opened-clause-begins
@@ -28,3 +30,11 @@ pub returns-in-Closed-clause-begins : goal.returns-in-Closed-clause-begins
 returns-in-Closed-clause-begins c =
     begun_closed c.args.self.now.plan.me.name (session_at c.args.self.now.plan) c.args.self.now.posts c.close.new.self.posts c.args.input c.in-Closed.session
     c.new-in-Closed.result c.in-Closed.is c.new-in-Closed.ensures c.close.ensures.closed
+
+pub returns-in_ok-taken-in-Bytes-clause-slice : goal.returns-in_ok-taken-in-Bytes-clause-slice
+returns-in_ok-taken-in-Bytes-clause-slice c = λ on.
+    let before = c.args.self.now.posts in
+    let after = c.hear_on.new.self.posts in
+    subst (λ (n : ℕ). HaveKeptSlice n before after) (sym (ap session_of c.in-Bytes.is))
+    (slice_kept c.in-Bytes.session before after (sym c.is_in_use-in_use.ensures ∙ c.slice_stays.ensures.slice on)
+    (c.in_ok-taken-in-Bytes.ensures.stay (c.slice_stays.ensures.routes on)))

@@ -2,9 +2,7 @@ use Rattle.std.proofs.Common.{◌<◌, ℕ, drop, length, slice_set, set, subst,
 use Rattle.std.proofs.Common.{ap, ◌∙◌, arith, Some, None}
 use Rattle.std.proofs.lemmas.List.{length-set}
 use Rattle.node_core.specs.NodeModel.Step.{nothing}
-use Rattle.agent_node.specs.Applying.{AreLed, HasHeard, HasLed, HasTaken}
-use Rattle.agent_tables.specs.Touched.{SameRoutes}
-use Rattle.agent_node.specs.Core.{holdings}
+use Rattle.agent_node.specs.Applying.{AreLed, HasHeard, HasLed, HasTaken, HaveKeptRoutes}
 use Rattle.agent_node.specs.Ends.{Ends, posts_of, whom}
 use Rattle.agent_node.proofs.Begins.{taken_down, taken_on, whom_at}
 use Rattle.agent_node.proofs.Led.{are_led, if_some, routes_kept}
@@ -101,6 +99,7 @@ returns-in-None-clause-stay c = λ on.
     let controllers = ap (λ (e : Ends). length e.plan.controllers) c.self.view_is in
     let long = ends_long c.self.inside.plan hs ss c.self.invariant in
     let lt : c.from.result < length hs = omega (arith, long, controllers, c.requires.known, c.from.ensures) in
-    subst (λ (e : Ends). SameRoutes (holdings e.posts) (holdings (posts_of (slice_set hs c.from.result h') ss))) c.self.view_is
+    subst (λ (n : ℕ). HaveKeptRoutes n c.args.self.now.posts (posts_of (slice_set hs c.from.result h') ss)) c.from.ensures
+    (subst (λ (e : Ends). HaveKeptRoutes c.from.result e.posts (posts_of (slice_set hs c.from.result h') ss)) c.self.view_is
     (routes_kept c.self.inside.plan hs ss c.self.invariant c.from.result h lt c.index_mut.ensures.value h'
-    (c.in_ok-taken.ensures.stay on))
+    (c.in_ok-taken.ensures.stay on)))

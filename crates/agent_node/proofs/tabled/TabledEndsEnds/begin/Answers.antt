@@ -4,7 +4,7 @@ use Rattle.node_core.specs.Whole.{session_of}
 use Rattle.agent_tables.specs.Touched.{AgreeBut, RowKey}
 use Rattle.agent_node.specs.Applying.{AreLed}
 use Rattle.agent_node.specs.Core.{holdings}
-use Rattle.agent_node.proofs.Led.{of_some, told_on}
+use Rattle.agent_node.proofs.Led.{of_some, tables_kept, told_kept, told_on}
 use Rattle.agent_node.proofs.tabled.TabledEndsEnds.begin.Goals as goal
 
 pub invariant_of-self-2 : goal.invariant_of-self-2
@@ -20,4 +20,23 @@ invariant_of-self-2 c =
           (c.self.invariant.0 on)),
       λ off. absurd (true≢false (sym off)),
       λ on. told_on keys (session_of c.args.input) before after led (c.self.invariant.2 on),
+    )
+
+pub invariant_of-self-in_default : goal.invariant_of-self-in_default
+invariant_of-self-in_default c =
+    let session = session_of c.args.input in
+    let before = c.self.inside.ends.posts in
+    let after = c.apply-applied.new.self.posts in (
+      λ on. tables_kept session before after c.self.inside.tables
+          (c.in_ok-started.ensures.slice (c.are_both-self-inside.ensures.stay on))
+          (c.self.invariant.0 (c.are_both-self-inside.ensures.before on)),
+      λ on. record {
+        before = holdings before;
+        same = c.in_ok-started.ensures.stay (c.are_both-self-inside-in_default.ensures.stay on);
+        are = c.self.invariant.0 (c.are_both-self-inside-in_default.ensures.before on);
+      },
+      λ on.
+          let kept = c.in_ok-started.ensures.slice (c.are_both-self-inside-in_default-2.ensures.stay on) in
+          told_kept session before after kept.held kept.left kept.slice
+          (c.self.invariant.2 (c.are_both-self-inside-in_default-2.ensures.before on)),
     )
