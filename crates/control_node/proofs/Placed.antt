@@ -1,6 +1,8 @@
 -- Lists with an item at a place, or behind the last.
 use Rattle.std.specs.Prelude.{◌≡◌, ℕ, zero, suc, ◌+◌, ◌-◌, ◌≤◌, ◌<◌, List, [], ◌∷◌, ◌++◌, drop, length, true}
-use Rattle.std.proofs.Common.{refl, ap, arith, set}
+use Rattle.std.proofs.Common.{refl, sym, ◌∙◌, ap, arith, get_or, inl, inr, set}
+use Rattle.std.proofs.lemmas.Bool.{cases_eq}
+use Rattle.std.proofs.lemmas.List.{get_or-set_other}
 use Rattle.node_core.specs.Keeping.{AreFew, AreOfLive, kept_at}
 use Rattle.node_core.specs.NodeModel.Step.{Post, is_idle, nothing, post}
 use Rattle.ov_types.specs.declared.rows.NodeId.{NodeId}
@@ -67,6 +69,21 @@ live_put (p ∷ posts) (x ∷ kept) (suc n) long live = λ i.
     → kept_at (x ∷ put_at kept n []) i ≡ []) [
       | zero ↦ λ idle. live zero idle
       | suc j ↦ λ idle. live_put posts kept n (omega (arith, long)) (λ i idle. live (suc i) idle) j idle
+    ]
+
+-- nothing is kept of an end that is closed
+set_nothing : {X : Type 0} (xs : List X) (i : ℕ) (d : X) → get_or (set xs i d) i d ≡ d
+set_nothing [] i d = refl
+set_nothing (x ∷ xs) zero d = refl
+set_nothing (x ∷ xs) (suc i) d = set_nothing xs i d
+
+pub live_set : (posts : List Post) (kept : List (List ℕ)) (n : ℕ) → AreOfLive posts kept
+    → AreOfLive (set posts n nothing) (set kept n [])
+live_set posts kept n live i idle =
+    elim (cases_eq i n) as (λ _. kept_at (set kept n []) i ≡ []) [
+      | inl e ↦ ap (kept_at (set kept n [])) e ∙ set_nothing kept n []
+      | inr ne ↦ get_or-set_other kept n i [] [] ne
+          ∙ live i (ap (λ (p : Post). is_idle p.phase) (sym (get_or-set_other posts n i nothing nothing ne)) ∙ idle)
     ]
 
 -- ---- a node with one more agent

@@ -4,12 +4,12 @@ use Rattle.std.specs.declared.option.Option.{Option}
 use Rattle.std.specs.declared.option.Option.TheVariants.{Some, None}
 use Rattle.std.specs.declared.result.Result.{Result}
 use Rattle.std.specs.declared.result.Result.TheVariants.{Ok, Err}
-use Rattle.std.specs.List.{filter, list_any, slice_index_or}
+use Rattle.std.specs.List.{filter, list_any, slice_index_or, slice_set}
 use Rattle.ov_link.specs.declared.step.NodeFault.{NodeFault}
 use Rattle.ov_link.specs.declared.step.NodeFault.TheVariants.{LinkFailed, NoMemory}
 use Rattle.ov_types.specs.declared.rows.NodeId.{NodeId}
 use Rattle.node_core.specs.Naming.{Names}
-use Rattle.node_core.specs.NodeModel.Step.{Beginning, NodeKind, Post, Steps, nothing}
+use Rattle.node_core.specs.NodeModel.Step.{Beginning, NodeKind, Post, Steps, nothing, post}
 use Rattle.control_node.specs.Core.{Core, sessions}
 use Rattle.control_node.specs.declared.plan.ControlPlan.{ControlPlan}
 
@@ -70,9 +70,21 @@ inserted numbers n = filter (λ m. nat_lt m n) numbers ++ n ∷ filter (λ m. na
 abbrev pub retiring : ControlPlan → ℕ → ControlPlan
 retiring plan session = with_retired plan (inserted plan.retired session)
 
+-- the node without the agent of a session: its end is closed, and nothing is kept of it
+abbrev pub departed : Core → ℕ → Core
+departed n session = record n {
+  plan = retiring n.plan session;
+  posts = slice_set n.posts session nothing;
+  kept = slice_set n.kept session [];
+}
+
 -- its end is closed, and nothing is replied
 abbrev pub closing : Beginning
 closing = record { replies = []; after = None }
+
+-- ---- sessions are told what is wanted, without an input
+abbrev pub as_it_is : List Post → Beginning
+as_it_is posts = record { replies = []; after = Some (post posts 0) }
 
 -- the session whose link failed
 abbrev pub failed_in : {V : Type 0} → Result V NodeFault → Option ℕ
@@ -85,4 +97,10 @@ module _ {L : Type 0} (accepted : L → Option (List (List ℕ))) (breaks : L �
   pub record IsRemoval {V : Type 0} (k : NodeKind) (posts posts' : List Post) (session : ℕ) (links links' : List L)
       (result : Result V NodeFault) : Type 0 where
     pub steps : Steps k accepted breaks faults posts posts' session closing links links' (failed_in result)
+    pub names : Names faults links links' (failed_in result)
+
+  -- all sessions are told. The answer names the lowest whose link failed
+  pub record IsPass {V : Type 0} (k : NodeKind) (posts posts' : List Post) (links links' : List L)
+      (result : Result V NodeFault) : Type 0 where
+    pub steps : Steps k accepted breaks faults posts posts' 0 (as_it_is posts) links links' (failed_in result)
     pub names : Names faults links links' (failed_in result)

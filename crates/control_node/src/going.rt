@@ -4,8 +4,9 @@ ghost use Rattle.std.specs.List.{filter};
 ghost use Rattle.node_core.specs.Keeping.{AreFew, AreOfLive, AreSwept};
 ghost use Rattle.node_core.specs.Naming.{Names};
 ghost use Rattle.node_laws.specs.Stepped.{AreTold};
-ghost use Rattle.node_core.specs.NodeModel.Step.{Steps};
-ghost use Rattle.control_node.specs.Agents.{IsRemoval, closing, failed_in, inserted, is_agent, is_retired, retiring};
+ghost use Rattle.node_core.specs.NodeModel.Step.{Steps, nothing};
+ghost use Rattle.control_node.specs.Agents.{IsPass, IsRemoval, as_it_is, closing, departed, failed_in, inserted};
+ghost use Rattle.control_node.specs.Agents.{is_agent, is_retired, retiring};
 ghost use Rattle.control_node.specs.Core.{sessions};
 ghost use Rattle.control_node.specs.Wanting.{kind};
 
@@ -96,6 +97,58 @@ fn close_and_tell<L: Link>(
     told
 }
 
+/// The end of a session is closed, and nothing is kept of it.
+fn forget(node: &mut NodeCore<ControlEnds>, session: u16)
+    requires known { session < length node.old.ends.posts }
+    requires many { length node.old.inboxes.items ≡ length node.old.ends.posts }
+    ensures plan { node.new.ends.plan ≡ node.old.ends.plan }
+    ensures closed { node.new.ends.posts ≡ slice_set node.old.ends.posts session nothing }
+    ensures kept { node.new.inboxes.items ≡ slice_set node.old.inboxes.items session [] }
+    ensures failed { node.new.failed ≡ node.old.failed }
+{
+    node.ends.close_end(session);
+    node.inboxes[usize::from(session)].clear();
+}
+
+/// All sessions are told. Gives the lowest session whose link failed.
+fn tell_ends<L: Link>(ends: &mut ControlEnds, links: &mut Links<L>) -> Result<Option<u16>, NoMemory>
+    requires some { 0 < length ends.old.posts }
+    requires linked { length links.old ≡ length ends.old.posts }
+    ensures plan { ends.new.plan ≡ ends.old.plan }
+    ensures sessions { length ends.new.posts ≡ length ends.old.posts }
+    ensures steps { IfOk result (λ lowest. Steps (kind ends.old.plan) L.accepted L.breaks L.faults ends.old.posts
+        ends.new.posts 0 (as_it_is ends.old.posts) links.old links.new lowest) }
+    ensures names { IfOk result (λ lowest. Names L.faults links.old links.new lowest) }
+    ensures links { length links.new ≡ length links.old }
+{
+    let lowest = tell(ends, links, 0, &[])?;
+    Ok(lowest)
+}
+
+/// All sessions are told, and nothing is kept of those that are closed then. Gives the lowest session whose link failed.
+fn tell_all<L: Link>(
+    node: &mut NodeCore<ControlEnds>,
+    links: &mut Links<L>,
+) -> Result<Option<u16>, NoMemory>
+    requires some { 0 < length node.old.ends.posts }
+    requires linked { length links.old ≡ length node.old.ends.posts }
+    requires many { length node.old.inboxes.items ≡ length node.old.ends.posts }
+    ensures plan { node.new.ends.plan ≡ node.old.ends.plan }
+    ensures sessions { length node.new.ends.posts ≡ length node.old.ends.posts }
+    ensures steps { IfOk result (λ lowest. Steps (kind node.old.ends.plan) L.accepted L.breaks L.faults
+        node.old.ends.posts node.new.ends.posts 0 (as_it_is node.old.ends.posts) links.old links.new lowest) }
+    ensures names { IfOk result (λ lowest. Names L.faults links.old links.new lowest) }
+    ensures swept { AreSwept node.new.ends.posts node.old.inboxes.items node.new.inboxes.items }
+    ensures few { AreFew node.old.inboxes.items → AreFew node.new.inboxes.items }
+    ensures live { AreOfLive node.new.ends.posts node.new.inboxes.items }
+    ensures links { length links.new ≡ length links.old }
+    ensures failed { node.new.failed ≡ node.old.failed }
+{
+    let told = tell_ends(&mut node.ends, links);
+    node.sweep();
+    told
+}
+
 fn removal(lowest: Option<u16>) -> Result<(), NodeFault>
     ensures lowest { failed_in result ≡ lowest }
     ensures memory { result ≢ Err NodeFault.NoMemory }
@@ -159,6 +212,62 @@ impl ControlNode {
             return Err(NodeFault::NoMemory);
         }
         match self.retire(session, links) {
+            Ok(lowest) => removal(lowest),
+            Err(NoMemory) => {
+                self.node.failed = true;
+                Err(NodeFault::NoMemory)
+            }
+        }
+    }
+
+    /// The agent of a session goes: the session is closed, nothing is kept of it, and its number is retired. No session
+    /// is told yet what changes by that. Where memory is wanting, nothing changes.
+    pub fn retire_agent(&mut self, session: u16) -> Result<(), NoMemory>
+        requires agent { is_agent self.old.plan session ≡ true }
+        requires kept { is_retired self.old.plan session ≡ false }
+        ensures departed { OnOk result (self.new ≡ departed self.old session) }
+        ensures err { OnErr result (self.new ≡ self.old) }
+    {
+        let _sessions = self.node.ends.sessions();
+        let retired = with_number(self.node.ends.alloc(), &self.retired, session)?;
+        forget(&mut self.node, session);
+        self.retired = retired;
+        Ok(())
+    }
+
+    /// Tells all sessions. Gives the lowest session whose link failed.
+    fn tell_each<L: Link>(&mut self, links: &mut Links<L>) -> Result<Option<u16>, NoMemory>
+        requires linked { length links.old ≡ sessions self.old.plan }
+        ensures steps { IfOk result (λ lowest. Steps (kind self.old.plan) L.accepted L.breaks L.faults
+            self.old.posts self.new.posts 0 (as_it_is self.old.posts) links.old links.new lowest) }
+        ensures names { IfOk result (λ lowest. Names L.faults links.old links.new lowest) }
+        ensures swept { AreSwept self.new.posts self.old.kept self.new.kept }
+        ensures plan { self.new.plan ≡ self.old.plan }
+        ensures links { length links.new ≡ length links.old }
+        ensures failed { self.new.failed ≡ self.old.failed }
+    {
+        let _sessions = self.node.ends.sessions();
+        tell_all(&mut self.node, links)
+    }
+
+    /// Tells each session what is wanted now. A link that fails closes its session. After want of memory every step
+    /// answers that, until a restart.
+    pub fn tell<L: Link>(&mut self, links: &mut Links<L>) -> Result<(), NodeFault>
+        requires linked { length links.old ≡ sessions self.old.plan }
+        ensures passes { result ≢ Err NodeFault.NoMemory
+            → IsPass L.accepted L.breaks L.faults (kind self.old.plan) self.old.posts self.new.posts links.old
+            links.new result }
+        ensures swept { result ≢ Err NodeFault.NoMemory → AreSwept self.new.posts self.old.kept self.new.kept }
+        ensures told { IfOk result (λ _. AreTold (kind self.new.plan) self.new.posts) }
+        ensures plan { self.new.plan ≡ self.old.plan }
+        ensures links { length links.new ≡ length links.old }
+        ensures failed { (self.new.failed ≡ true) ↔ (result ≡ Err NodeFault.NoMemory) }
+        ensures until_restart { self.old.failed ≡ true → result ≡ Err NodeFault.NoMemory }
+    {
+        if self.node.failed {
+            return Err(NodeFault::NoMemory);
+        }
+        match self.tell_each(links) {
             Ok(lowest) => removal(lowest),
             Err(NoMemory) => {
                 self.node.failed = true;

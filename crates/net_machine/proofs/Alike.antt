@@ -10,6 +10,7 @@ use Rattle.running_nodes.specs.RunningModel.Seats.{Seat, far_of, index_from, is_
 use Rattle.running_nodes.specs.RunningModel.Stands.{IsLong}
 use Rattle.running_nodes.specs.RunningModel.Steps.{cleared, cleared_at, cleared_from, told_of_loss, with_link, with_notice, with_seat}
 use Rattle.running_nodes.specs.RunningModel.SessionPlace.{SessionPlace}
+use Rattle.running_laws.proofs.FirstPlaces.{map_twice}
 use Rattle.running_laws.proofs.Lists.{AreAlike, index_map, same_who, with_alike}
 use Rattle.net_machine.specs.Seating.{AreLong}
 use Rattle.net_machine.proofs.Kept.{with_count, with_here, with_there}
@@ -45,6 +46,11 @@ from_alike (suc n) k i seats =
 
 pub cleared_alike : (seats : List Seat) (k : ℕ) → AreAlike seats (cleared seats k)
 cleared_alike seats k = from_alike (length (seat seats k).posts) k 0 seats
+
+-- nodes that are the same have the same names
+pub names_alike : (a b : List Seat) → AreAlike a b
+    → map (λ (n : Seat). name_of n.who) b ≡ map (λ (n : Seat). name_of n.who) a
+names_alike a b e = sym (map_twice name_of (λ (n : Seat). n.who) b) ∙ ap (map name_of) e ∙ map_twice name_of (λ (n : Seat). n.who) a
 
 -- ---- a seat is found by its name as before, where the names are the same
 pub named_by_names : (a b : List Seat) (name : Name)

@@ -9,17 +9,15 @@ use Rattle.std.proofs.lemmas.List.{at_drop_more, drop_all, length-append, length
 use Rattle.std.proofs.lemmas.Option.{same_Some}
 use Rattle.running_nodes.specs.MachineModel.Setup.{Name, without_agent}
 use Rattle.running_nodes.specs.RunningModel.Controls.{Controls}
-use Rattle.running_nodes.specs.RunningModel.Moving.{Leaves, LeavesAll, LeavesAt, retired_of, vacated, vacated_at, vacated_from}
+use Rattle.running_nodes.specs.RunningModel.Moving.{left_all, left_at, retired_of, vacated, vacated_from}
 use Rattle.running_nodes.specs.RunningModel.Seats.{Who, Configuring, Controlling, Forwarding, Seat, name_of, name_there, names_of, nobody}
 use Rattle.running_nodes.specs.RunningModel.Seats.{index_from, is_name, others_of, place_at, place_of, seat, seat_named, session_with}
 use Rattle.running_nodes.specs.RunningModel.Stands.{IsLong}
-use Rattle.running_nodes.specs.RunningModel.Steps.{cleared, with_seat}
+use Rattle.running_nodes.specs.RunningModel.Steps.{with_seat}
 use Rattle.running_nodes.specs.RunningModel.SessionPlace.{SessionPlace}
-use Rattle.running_laws.proofs.Lists.{same_who}
 use Rattle.net_machine.specs.Moving.{AreLeft, Differ, HasAgent, IsAgentPlace}
 use Rattle.net_machine.specs.Seating.{AreLong}
-use Rattle.net_machine.proofs.Alike.{cleared_alike, long_with, named_by_names}
-use Rattle.net_machine.proofs.Changes.{cleared_keeps}
+use Rattle.net_machine.proofs.Alike.{long_with, named_by_names}
 use Rattle.net_machine.proofs.Kept.{same_at, with_count, with_here, with_there}
 use Rattle.net_machine.proofs.Seating.{named_so, named_within, place_names}
 
@@ -96,20 +94,6 @@ posts_vacated : (o : Option ℕ) (n : Seat) → length (vacated_from o n).posts 
 posts_vacated None n = refl
 posts_vacated (Some i) n = length-set n.posts i _
 
-pub left_long : (name : Name) (n m : Seat) → IsLong n → Leaves name n m → IsLong m
-left_long name n m is h =
-    let v = vacated_long name n is in
-    let s = h.stepped in
-    let others : length (others_of (vacated name n).who) ≡ length (others_of m.who) =
-    ap (λ (w : Who). length (others_of w)) (sym s.who) in
-    record {
-      posts = s.posts_long ∙ v.posts ∙ others;
-      kept = h.swept.long ∙ v.kept ∙ others;
-      links = s.links_long ∙ v.links ∙ others;
-      breaks = s.breaks_long ∙ v.breaks ∙ others;
-      notices = ap (λ xs. length xs) s.notices ∙ v.notices ∙ others;
-    }
-
 -- ---- what a control node is that an agent left, and all others
 pub record LeftAt (name : Name) (k : ℕ) (seats after : List Seat) : Type 0 where
   pub long : AreLong after
@@ -132,34 +116,19 @@ names_with seats k m e =
     ∙ ap (slice_set (map (λ (n : Seat). name_of n.who) seats) k) (e ∙ name_at_seat seats k)
     ∙ set-get_or (map (λ (n : Seat). name_of n.who) seats) k (name_of nobody.who)
 
-alike_names : (a b : List Seat) → map (λ (n : Seat). n.who) b ≡ map (λ (n : Seat). n.who) a
-    → map (λ (n : Seat). name_of n.who) b ≡ map (λ (n : Seat). name_of n.who) a
-alike_names a b e = map_twice_seats b ∙ ap (map name_of) e ∙ sym (map_twice_seats a)
-  where
-    map_twice_seats : (ss : List Seat) → map (λ (n : Seat). name_of n.who) ss ≡ map name_of (map (λ (n : Seat). n.who) ss)
-    map_twice_seats [] = refl
-    map_twice_seats (n ∷ ss) = ap (λ ns. name_of n.who ∷ ns) (map_twice_seats ss)
-
-pub left_at : (name : Name) (k : ℕ) (seats after : List Seat) → AreLong seats → k < length seats
-    → LeavesAt name (Some k) seats after → LeftAt name k seats after
-left_at name k seats after long within (m, leaves, is) =
-    let one = with_seat k m seats in
-    let there : k < length one = let c = with_count seats k m in omega (arith, within, c) in
-    let long_one = long_with seats k m within long (left_long name (seat seats k) m (long k within) leaves) in
-    let keeps = cleared_keeps one k long_one there in
-    let alike = cleared_alike one k in
-    let called : name_of m.who ≡ name_of (seat seats k).who =
-    ap name_of leaves.stepped.who ∙ retired_name name (seat seats k).who in
-    subst (LeftAt name k seats) (sym is) (record {
-      long = keeps.long;
-      count = keeps.count ∙ with_count seats k m;
-      posts = λ j. keeps.posts j ∙ same_at (λ (n : Seat). length n.posts) seats k m within
-          (leaves.stepped.posts_long ∙ posts_vacated (session_with (seat seats k) name) (seat seats k)) j;
-      names = alike_names one (cleared one k) alike ∙ names_with seats k m called;
-      there = λ j off. same_who one (cleared one k) alike j ∙ ap (λ (n : Seat). n.who) (with_there seats k j m off);
-      here = λ below. same_who one (cleared one k) alike k ∙ ap (λ (n : Seat). n.who) (with_here seats k m below)
-          ∙ leaves.stepped.who;
-    })
+pub left_from : (name : Name) (k : ℕ) (seats : List Seat) → AreLong seats → k < length seats
+    → LeftAt name k seats (left_at name (Some k) seats)
+left_from name k seats long within =
+    let n = seat seats k in
+    let m = vacated name n in
+    record {
+      long = long_with seats k m within long (vacated_long name n (long k within));
+      count = with_count seats k m;
+      posts = λ j. same_at (λ (n : Seat). length n.posts) seats k m within (posts_vacated (session_with n name) n) j;
+      names = names_with seats k m (retired_name name n.who);
+      there = λ j off. ap (λ (n : Seat). n.who) (with_there seats k j m off);
+      here = λ below. ap (λ (n : Seat). n.who) (with_here seats k m below);
+    }
 
 -- ---- the other control nodes have it still
 module _ (name : Name) (k : ℕ) (c : Name) (seats after : List Seat) (is : seat_named seats c ≡ Some k)
@@ -187,15 +156,16 @@ module _ (name : Name) (k : ℕ) (c : Name) (seats after : List Seat) (is : seat
   all_still (d ∷ ds) off all = (has_still d off.0 all.0, all_still ds off.1 all.1)
 
 -- ---- one after the other
-pub next_left : (name c : Name) (cs : List Name) (seats after : List Seat) → AreLong seats → AreLeft seats name (c ∷ cs)
-    → LeavesAt name (seat_named seats c) seats after → AreLong after × AreLeft after name cs
-next_left name c cs seats after long left h =
+pub next_left : (name c : Name) (cs : List Name) (seats : List Seat) → AreLong seats → AreLeft seats name (c ∷ cs)
+    → AreLong (left_at name (seat_named seats c) seats) × AreLeft (left_at name (seat_named seats c) seats) name cs
+next_left name c cs seats long left =
     let one = left.each.0 in
     let within = named_within seats c one.node one.is in
-    let l = left_at name one.node seats after long within (subst (λ o. LeavesAt name o seats after) one.is h) in (
+    let l = left_from name one.node seats long within in
+    subst (λ o. AreLong (left_at name o seats) × AreLeft (left_at name o seats) name cs) (sym one.is) (
       l.long,
       record {
-        each = all_still name one.node c seats after one.is l cs left.differ.0 left.each.1;
+        each = all_still name one.node c seats (left_at name (Some one.node) seats) one.is l cs left.differ.0 left.each.1;
         differ = left.differ.1;
       },
     )
@@ -208,16 +178,14 @@ module _ (seats : List Seat) (name : Name) (cs : List Name) (i : ℕ) (d : Name)
   pub first_left : AreLeft seats name (drop i cs) → HasAgent seats name (get_or cs i d)
   first_left left = (here_left left).each.0
 
-pub rest_left : (seats after : List Seat) (name : Name) (cs : List Name) (i : ℕ) (d : Name) → i < length cs → AreLong seats
-    → AreLeft seats name (drop i cs) → LeavesAt name (seat_named seats (get_or cs i d)) seats after
-    → AreLong after × AreLeft after name (drop (i + 1) cs)
-rest_left seats after name cs i d below long left h =
-    next_left name (get_or cs i d) (drop (i + 1) cs) seats after long (here_left seats name cs i d below left) h
+  pub rest_left : AreLong seats → AreLeft seats name (drop i cs)
+      → AreLong (left_at name (seat_named seats (get_or cs i d)) seats)
+      × AreLeft (left_at name (seat_named seats (get_or cs i d)) seats) name (drop (i + 1) cs)
+  rest_left long left = next_left name (get_or cs i d) (drop (i + 1) cs) seats long (here_left left)
 
-pub leaves_more : (name : Name) (cs : List Name) (i : ℕ) (d : Name) (a b c : List Seat) → i < length cs
-    → LeavesAt name (seat_named a (get_or cs i d)) a b → LeavesAll name (drop (i + 1) cs) b c → LeavesAll name (drop i cs) a c
-leaves_more name cs i d a b c below one rest =
-    subst (λ ds. LeavesAll name ds a c) (sym (at_drop_more (λ ds. ds) cs i d below)) (b, one, rest)
+  pub leaves_more : left_all name (drop i cs) seats
+      ≡ left_all name (drop (i + 1) cs) (left_at name (seat_named seats (get_or cs i d)) seats)
+  leaves_more = ap (λ ds. left_all name ds seats) (at_drop_more (λ ds. ds) cs i d below)
 
-pub leaves_none : (name : Name) (cs : List Name) (i : ℕ) (a : List Seat) → length cs ≤ i → LeavesAll name (drop i cs) a a
-leaves_none name cs i a h = subst (λ ds. LeavesAll name ds a a) (sym (drop_all i cs h)) refl
+pub leaves_none : (name : Name) (cs : List Name) (i : ℕ) (a : List Seat) → length cs ≤ i → left_all name (drop i cs) a ≡ a
+leaves_none name cs i a h = ap (λ ds. left_all name ds a) (drop_all i cs h)

@@ -1,12 +1,12 @@
 -- What a move of a compute node keeps.
-use Rattle.std.specs.Prelude.{◌≡◌, ◌≢◌, ◌+◌, ◌<◌, ◌≤◌, ◌&&◌, ℕ, zero, suc, List, [], ◌∷◌, ◌++◌, length, map, Bool, true, false, cond}
+use Rattle.std.specs.Prelude.{◌≡◌, ◌≢◌, ◌+◌, ◌<◌, ◌≤◌, ◌&&◌, ℕ, zero, suc, List, [], ◌∷◌, ◌++◌, length, map, drop, Bool, true, false, cond}
 use Rattle.std.specs.declared.option.Option.{Option}
 use Rattle.std.specs.declared.option.Option.TheVariants.{Some, None}
 use Rattle.std.specs.List.{All, AllByRecursion, Contains}
 use Rattle.std.specs.Option.{IfSome}
-use Rattle.std.proofs.Common.{refl, sym, ◌∙◌, ap, subst, arith, inl, inr}
+use Rattle.std.proofs.Common.{refl, sym, ◌∙◌, ap, subst, arith, inl, inr, get_or}
 use Rattle.std.proofs.lemmas.Bool.{and_parts, cases_eq}
-use Rattle.std.proofs.lemmas.List.{get_or-map, length-map}
+use Rattle.std.proofs.lemmas.List.{at_drop_more, drop_all, get_or-map, length-map}
 use Rattle.std.proofs.lemmas.Option.{same_Some}
 use Rattle.ov_types.specs.First.{same_name}
 use Rattle.config_check.specs.Checked.{Checked}
@@ -15,21 +15,27 @@ use Rattle.config_types.specs.declared.topology.Node.{Node}
 use Rattle.config_types.specs.declared.topology.Topology.{Topology}
 use Rattle.running_nodes.specs.MachineModel.Network.{same_role}
 use Rattle.running_nodes.specs.MachineModel.Session.{Role, Agent, Configuration, Controller}
-use Rattle.running_nodes.specs.MachineModel.Setup.{Move, Name, id_of}
+use Rattle.running_nodes.specs.MachineModel.Setup.{Move, Name, id_of, is_listed}
 use Rattle.running_nodes.specs.RunningModel.Controls.{Controls}
-use Rattle.running_nodes.specs.RunningModel.Moving.{LeavesAll, LeavesAt, Moves, came, is_agent_named, is_listed_who, joined, reseated, retired_of}
+use Rattle.running_nodes.specs.RunningModel.Moving.{Moves, PassesAll, PassesAt, before_passes, came, is_agent_named, is_listed_who, joined, joined_by}
+use Rattle.running_nodes.specs.RunningModel.Moving.{left_all, left_at, reseated, retired_of}
 use Rattle.running_nodes.specs.RunningModel.Moving.{seats_of}
 use Rattle.running_nodes.specs.RunningModel.Seats.{Who, Configuring, Controlling, Forwarding, Seat, index_from, name_of, nobody, other}
 use Rattle.running_nodes.specs.RunningModel.Seats.{others_of}
-use Rattle.running_nodes.specs.RunningModel.Seats.{role_of, seat, session_with}
+use Rattle.running_nodes.specs.RunningModel.Seats.{role_of, seat, seat_named, session_with}
 use Rattle.running_nodes.specs.RunningModel.Stands.{IsLong}
-use Rattle.running_nodes.specs.RunningModel.Steps.{fresh_seat}
+use Rattle.running_nodes.specs.RunningModel.Steps.{Passes, fresh_seat, with_seat}
+use Rattle.running_laws.proofs.FirstPlaces.{at_map}
+use Rattle.running_laws.proofs.Lists.{AreAlike, same_who, with_alike}
 use Rattle.net_machine.specs.Moving.{AreLeft, CanMove, HasAgent, HasAgentsBehind, HasControls, HasRoom}
-use Rattle.net_machine.specs.Moving.{CanCome, came_seat, control_name}
-use Rattle.net_machine.specs.Seating.{AreLong}
+use Rattle.net_machine.specs.Moving.{CanCome, IsControlNode, came_seat, control_name}
+use Rattle.net_machine.specs.Seating.{AreLong, Keeps}
+use Rattle.net_machine.proofs.Alike.{cleared_alike, names_alike, named_by_names}
+use Rattle.net_machine.proofs.Changes.{cleared_keeps}
 use Rattle.net_machine.proofs.Coming.{came_long, is_controlling}
-use Rattle.net_machine.proofs.Leaving.{LeftAt, left_at, next_left}
-use Rattle.net_machine.proofs.Seating.{index_within, named_within}
+use Rattle.net_machine.proofs.Kept.{with_count, with_keeps}
+use Rattle.net_machine.proofs.Leaving.{LeftAt, left_from, next_left}
+use Rattle.net_machine.proofs.Seating.{index_within, named_so, named_within}
 
 -- ---- its own seat
 fresh_long : (who : Who) → IsLong (fresh_seat who)
@@ -182,6 +188,13 @@ pub record StaysWhole (seats after : List Seat) : Type 0 where
   pub first : (x : Checked) → (seat seats 0).who ≡ Configuring x → (seat after 0).who ≡ Configuring x
   pub controls : (k : ℕ) → control_name (seat after k).who ≡ control_name (seat seats k).who
   pub room : HasRoom seats → HasRoom after
+  pub named : (c : Name) → IsControlNode seats c → IsControlNode after c
+
+-- control nodes are found by their names as before, where nodes keep their names
+still_named : (seats after : List Seat) → map (λ (n : Seat). name_of n.who) after ≡ map (λ (n : Seat). name_of n.who) seats
+    → ((k : ℕ) → control_name (seat after k).who ≡ control_name (seat seats k).who) → (c : Name) → IsControlNode seats c
+    → IsControlNode after c
+still_named seats after names controls c h k is = controls k ∙ h k (sym (named_by_names after seats c names) ∙ is)
 
 retired_control : (name : Name) (w : Who) → control_name (retired_of name w) ≡ control_name w
 retired_control name (Configuring x) = refl
@@ -211,6 +224,7 @@ at_one name k seats after within l = record {
   ];
   controls = at_controls name k seats after within l;
   room = λ r j c e. subst (λ m. m < 65535) (sym (l.posts j)) (r j c (sym (at_controls name k seats after within l j) ∙ e));
+  named = still_named seats after l.names (at_controls name k seats after within l);
 }
 
 pub whole_both : (a b c : List Seat) → StaysWhole a b → StaysWhole b c → StaysWhole a c
@@ -219,19 +233,22 @@ whole_both a b c h k = record {
   first = λ x is. k.first x (h.first x is);
   controls = λ j. k.controls j ∙ h.controls j;
   room = λ r. k.room (h.room r);
+  named = λ d e. k.named d (h.named d e);
 }
 
-pub all_left : (name : Name) (cs : List Name) (seats after : List Seat) → AreLong seats → AreLeft seats name cs
-    → LeavesAll name cs seats after → StaysWhole seats after
-all_left name [] seats after long left h =
-    subst (StaysWhole seats) (sym h) (record { long = long; first = λ x is. is; controls = λ k. refl; room = λ r. r })
-all_left name (c ∷ cs) seats after long left (between, one, rest) =
+pub all_left : (name : Name) (cs : List Name) (seats : List Seat) → AreLong seats → AreLeft seats name cs
+    → StaysWhole seats (left_all name cs seats)
+all_left name [] seats long left = record { long = long; first = λ x is. is; controls = λ k. refl; room = λ r. r; named = λ c h. h }
+all_left name (c ∷ cs) seats long left =
     let agent = left.each.0 in
     let within = named_within seats c agent.node agent.is in
-    let l = left_at name agent.node seats between long within (subst (λ o. LeavesAt name o seats between) agent.is one) in
-    let next = next_left name c cs seats between long left one in
-    whole_both seats between after (at_one name agent.node seats between within l)
-    (all_left name cs between after next.0 next.1 rest)
+    let l = left_from name agent.node seats long within in
+    let between = left_at name (seat_named seats c) seats in
+    let one : StaysWhole seats between =
+    subst (λ o. StaysWhole seats (left_at name o seats)) (sym agent.is)
+    (at_one name agent.node seats (left_at name (Some agent.node) seats) within l) in
+    let next = next_left name c cs seats long left in
+    whole_both seats between (left_all name cs between) one (all_left name cs between next.0 next.1)
 
 -- ---- all of it
 first_reseated : (name : Name) (new seats : List Seat) (x : Checked) → (seat seats 0).who ≡ Configuring x
@@ -268,53 +285,163 @@ room_reseated t name o seats behind room k c e =
     subst (λ (n : Seat). length n.posts < 65535) (sym (reseated_there name (seats_of t o) seats behind k q.0 q.1))
     (room k c before)
 
-pub reseated_whole : (t : Topology) (name : Name) (o : Option Node) (seats : List Seat) → AreLong seats
-    → HasAgentsBehind seats → StaysWhole seats (reseated name (seats_of t o) seats)
-reseated_whole t name o seats long behind = record {
-  long = reseated_long t name o seats long;
-  first = λ x is. first_reseated name (seats_of t o) seats x is;
-  controls = reseated_controls t name o seats behind;
-  room = room_reseated t name o seats behind;
-}
+-- ---- it comes
+came_name : (n : Node) (s : Seat) → name_of (came_seat n s).who ≡ name_of s.who
+came_name n s = by_who s.who refl
+  where
+    by_who : (w : Who) → s.who ≡ w → name_of (cond (is_listed_who n w) (joined_by w (id_of n) s) s).who ≡ name_of w
+    by_who (Configuring x) e = ap name_of e
+    by_who (Forwarding plan) e = ap name_of e
+    by_who (Controlling c) e =
+        elim (is_listed c.me.name n) as (λ b. name_of (cond b (joined_by (Controlling c) (id_of n) s) s).who ≡ c.me.name) [
+          | true ↦ refl
+          | false ↦ ap name_of e
+        ]
+
+came_control : (n : Node) (s : Seat) → control_name (came_seat n s).who ≡ control_name s.who
+came_control n s = by_who s.who refl
+  where
+    by_who : (w : Who) → s.who ≡ w → control_name (cond (is_listed_who n w) (joined_by w (id_of n) s) s).who ≡ control_name w
+    by_who (Configuring x) e = ap control_name e
+    by_who (Forwarding plan) e = ap control_name e
+    by_who (Controlling c) e =
+        elim (is_listed c.me.name n) as (λ b. control_name (cond b (joined_by (Controlling c) (id_of n) s) s).who ≡ Some c.me.name) [
+          | true ↦ refl
+          | false ↦ ap control_name e
+        ]
+
+came_names : (n : Node) (seats : List Seat)
+    → map (λ (n : Seat). name_of n.who) (map (came_seat n) seats) ≡ map (λ (n : Seat). name_of n.who) seats
+came_names n [] = refl
+came_names n (s ∷ seats) = λ i. came_name n s i ∷ came_names n seats i
+
+came_named : (o : Option Node) (seats : List Seat) (c : Name) → IsControlNode seats c → IsControlNode (came o seats) c
+came_named None seats c h = h
+came_named (Some n) seats c h =
+    still_named seats (map (came_seat n) seats) (came_names n seats)
+    (λ k. ap (λ (s : Seat). control_name s.who) (at_map (came_seat n) seats k nobody) ∙ came_control n (seat seats k)) c h
+
+-- ---- passes
+pub pass_keeps : (seats : List Seat) (k : ℕ) (n : Seat) → AreLong seats → k < length seats → Passes (seat seats k) n
+    → Keeps seats (with_seat k n seats)
+pass_keeps seats k n long within h =
+    let s = h.stepped in
+    let l = long k within in
+    let others : length (others_of (seat seats k).who) ≡ length (others_of n.who) = ap (λ (w : Who). length (others_of w)) (sym s.who) in
+    with_keeps seats k n within long (ap name_of s.who) (ap others_of s.who) s.posts_long
+    (record {
+      posts = s.posts_long ∙ l.posts ∙ others;
+      kept = h.swept.long ∙ l.kept ∙ others;
+      links = s.links_long ∙ l.links ∙ others;
+      breaks = s.breaks_long ∙ l.breaks ∙ others;
+      notices = ap (λ xs. length xs) s.notices ∙ l.notices ∙ others;
+    })
+
+-- the nodes are the same, and so are their sessions
+pub record StaysAlike (seats after : List Seat) : Type 0 where
+  pub long : AreLong after
+  pub alike : AreAlike seats after
+
+one_alike : (c : Name) (o : Option ℕ) (seats after : List Seat) → seat_named seats c ≡ o → AreLong seats → PassesAt o seats after
+    → StaysAlike seats after
+one_alike c None seats after is long h = subst (StaysAlike seats) (sym h) (record { long = long; alike = refl })
+one_alike c (Some k) seats after is long h =
+    let within = named_within seats c k is in
+    let one = with_seat k h.0 seats in
+    let keeps = pass_keeps seats k h.0 long within h.1 in
+    let there : k < length one = (let c = with_count seats k h.0 in omega (arith, within, c)) in
+    subst (StaysAlike seats) (sym h.2) (record {
+      long = (cleared_keeps one k keeps.long there).long;
+      alike = cleared_alike one k ∙ with_alike k h.0 seats h.1.stepped.who;
+    })
+
+pub next_alike : (c : Name) (seats after : List Seat) → AreLong seats → PassesAt (seat_named seats c) seats after
+    → StaysAlike seats after
+next_alike c seats after long h = one_alike c (seat_named seats c) seats after refl long h
+
+all_alike : (cs : List Name) (seats after : List Seat) → AreLong seats → PassesAll cs seats after → StaysAlike seats after
+all_alike [] seats after long h = subst (StaysAlike seats) (sym h) (record { long = long; alike = refl })
+all_alike (c ∷ cs) seats after long (between, one, rest) =
+    let h = next_alike c seats between long one in
+    let k = all_alike cs between after h.long rest in
+    record { long = k.long; alike = k.alike ∙ h.alike }
+
+alike_named : (seats after : List Seat) → AreAlike seats after → (c : Name) → IsControlNode seats c → IsControlNode after c
+alike_named seats after alike c h =
+    still_named seats after (names_alike seats after alike) (λ k. ap control_name (same_who seats after alike k)) c h
+
+pub controls_still : (seats after : List Seat) (cs : List Name) → AreAlike seats after → All (IsControlNode seats) cs
+    → All (IsControlNode after) cs
+controls_still seats after cs alike all = λ k d below. alike_named seats after alike (get_or cs k d) (all k d below)
+
+-- along the list of control nodes
+pub passes_more : (cs : List Name) (i : ℕ) (d : Name) (a b c : List Seat) → i < length cs
+    → PassesAt (seat_named a (get_or cs i d)) a b → PassesAll (drop (i + 1) cs) b c → PassesAll (drop i cs) a c
+passes_more cs i d a b c below one rest =
+    subst (λ ds. PassesAll ds a c) (sym (at_drop_more (λ ds. ds) cs i d below)) (b, one, rest)
+
+pub passes_none : (cs : List Name) (i : ℕ) (a : List Seat) → length cs ≤ i → PassesAll (drop i cs) a a
+passes_none cs i a h = subst (λ ds. PassesAll ds a a) (sym (drop_all i cs h)) refl
+
+-- a seat is that of a control node
+pub pass_control : (seats : List Seat) (c : Name) (k : ℕ) → IsControlNode seats c → seat_named seats c ≡ Some k
+    → (d : Controls) × ((seat seats k).who ≡ Controlling d)
+pass_control seats c k h is = is_controlling seats k c (h k is)
 
 -- a move keeps the configuration node where it is, and each node has an end for each of its sessions
 pub moved_first : (t : Topology) (m : Move) (seats after : List Seat) (x : Checked) → AreLong seats → CanMove t m seats
     → (seat seats 0).who ≡ Configuring x → Moves t m seats after
     → AreLong after × ((seat after 0).who ≡ Configuring x)
 moved_first t m seats after x long can is h =
-    let new = seats_of t m.now in
-    let r = reseated m.name new seats in
-    let one = reseated_whole t m.name m.now seats long can.agents in
-    let two = all_left m.name m.left r h.left one.long (left_reseated m.name new seats m.left can.agents can.left) h.leaves in
-    let first = two.first x (one.first x is) in (
-      subst AreLong (sym h.comes) (came_long m.now h.left two.long),
-      subst (λ ss. (seat ss 0).who ≡ Configuring x) (sym h.comes)
-          (first_came m.now h.left x (some_first h.left x first) first),
+    let r = reseated m.name (seats_of t m.now) seats in
+    let left = left_all m.name m.left r in
+    let before = came m.now left in
+    let whole = all_left m.name m.left r (reseated_long t m.name m.now seats long)
+    (left_reseated m.name (seats_of t m.now) seats m.left can.agents can.left) in
+    let first = whole.first x (first_reseated m.name (seats_of t m.now) seats x is) in
+    let stays = all_alike m.left before after (came_long m.now left whole.long) h in (
+      stays.long,
+      same_who before after stays.alike 0 ∙ first_came m.now left x (some_first left x first) first,
     )
 
 -- ---- what each of its parts asks
+each_control : (seats : List Seat) (name : Name) (cs : List Name) → AllByRecursion (HasAgent seats name) cs → (k : ℕ) (d : Name)
+    → k < length cs → IsControlNode seats (get_or cs k d)
+each_control seats name [] all k d below = absurd (omega (arith, below))
+each_control seats name (c ∷ cs) all zero d below = λ j is.
+    let h = all.0 in
+    let same : h.node ≡ j = same_Some h.node j (sym h.is ∙ is) in
+    let who = subst (λ k. (seat seats k).who ≡ Controlling h.controls) same h.who in
+    ap control_name who ∙ ap Some (sym (ap name_of who) ∙ named_so seats c j is)
+each_control seats name (c ∷ cs) all (suc k) d below = each_control seats name cs all.1 k d (omega (arith, below))
+
 module _ (t : Topology) (m : Move) (seats : List Seat) (long : AreLong seats) (can : CanMove t m seats) where
   abbrev pub with_seats : List Seat
   with_seats = reseated m.name (seats_of t m.now) seats
 
-  whole : StaysWhole seats with_seats
-  whole = reseated_whole t m.name m.now seats long can.agents
-
   pub move_long : AreLong with_seats
-  move_long = whole.long
+  move_long = reseated_long t m.name m.now seats long
 
   pub move_left : AreLeft with_seats m.name m.left
   move_left = left_reseated m.name (seats_of t m.now) seats m.left can.agents can.left
 
-  module _ (left : List Seat) (leaves : LeavesAll m.name m.left with_seats left) where
-    stays : StaysWhole with_seats left
-    stays = all_left m.name m.left with_seats left move_long move_left leaves
+  stays : StaysWhole with_seats (left_all m.name m.left with_seats)
+  stays = all_left m.name m.left with_seats move_long move_left
 
-    pub move_controls : HasControls t left
-    move_controls k = stays.controls k ∙ whole.controls k ∙ can.controls k
+  pub move_controls : HasControls t (left_all m.name m.left with_seats)
+  move_controls k = stays.controls k ∙ reseated_controls t m.name m.now seats can.agents k ∙ can.controls k
 
-    pub move_room : HasRoom left
-    move_room = stays.room (whole.room can.room)
+  pub move_room : HasRoom (left_all m.name m.left with_seats)
+  move_room = stays.room (room_reseated t m.name m.now seats can.agents can.room)
+
+  -- before passes
+  pub before_long : AreLong (before_passes t m seats)
+  before_long = came_long m.now (left_all m.name m.left with_seats) stays.long
+
+  pub before_controls : All (IsControlNode (before_passes t m seats)) m.left
+  before_controls = λ k d below.
+      came_named m.now (left_all m.name m.left with_seats) (get_or m.left k d)
+      (stays.named (get_or m.left k d) (each_control with_seats m.name m.left move_left.each k d below))
 
 pub comes_listed : (t : Topology) (o : Option Node) → ((n : Node) → o ≡ Some n → CanCome t n)
     → IfSome o (λ n. All (Contains (controller_names t)) n.controllers)

@@ -60,6 +60,10 @@ control_name (Configuring x) = None
 control_name (Controlling c) = Some c.me.name
 control_name (Forwarding plan) = None
 
+-- the node of a name is a control node, where it is there
+abbrev pub IsControlNode : List Seat → Name → Type 0
+IsControlNode seats c = (k : ℕ) → seat_named seats c ≡ Some k → control_name (seat seats k).who ≡ Some c
+
 abbrev pub control_at : Topology → ℕ → Option Name
 control_at t zero = None
 control_at t (suc i) = option_map (λ (c : NodeId). c.name) (slice_get t.controllers i)

@@ -1,20 +1,22 @@
 //! Compute nodes that come, go, or list other control nodes than before.
 ghost use Rattle.std.specs.Prelude.{◌≡◌, ◌<◌, ◌≤◌, ◌+◌, length, option_copied, IfOk, Some};
+ghost use Rattle.std.specs.List.{All};
 ghost use Rattle.config_check.specs.Checked.{Checked};
 ghost use Rattle.config_check.specs.Finding.{node_named};
 ghost use Rattle.running_nodes.specs.MachineModel.Setup.{listed_by, stands};
-ghost use Rattle.running_nodes.specs.RunningModel.Moving.{LeavesAll, LeavesAt, Moves, came};
+ghost use Rattle.running_nodes.specs.RunningModel.Controls.{Controls};
+ghost use Rattle.running_nodes.specs.RunningModel.Moving.{Moves, PassesAll, PassesAt, before_passes, came, left_all, left_at};
 ghost use Rattle.running_nodes.specs.RunningModel.Seats as seats_of;
-ghost use Rattle.running_nodes.specs.RunningModel.Seats.{Configuring, seat};
+ghost use Rattle.running_nodes.specs.RunningModel.Seats.{Configuring, Controlling, seat};
 ghost use Rattle.running_nodes.specs.RunningModel.Steps.{with_seat};
-ghost use Rattle.net_machine.specs.Moving.{AreLeft, CanMove, HasAgent, HasControls, HasRoom, IsAgentPlace};
+ghost use Rattle.net_machine.specs.Moving.{AreLeft, CanMove, HasAgent, HasControls, HasRoom, IsControlNode};
 ghost use Rattle.net_machine.specs.Moving.{came_seat, control_name};
 ghost use Rattle.net_machine.specs.Seating.{AreLong};
 
 use crate::clear::clear_node;
 use config_types::{Node, Topology};
 use ov_types::{Name, NoMemory, NodeId};
-use running_nodes::{Nodes, SessionPlace, lists};
+use running_nodes::{Nodes, lists};
 use std::alloc::Global;
 
 /// The compute node of a name.
@@ -60,37 +62,24 @@ fn copied(alloc: Global, names: &[Name]) -> Result<Vec<Name>, NoMemory>
     Ok(copy)
 }
 
-/// An agent goes from the control node of this end. The sessions of which that closed its end go down.
-fn leave_at(nodes: &mut Nodes, place: SessionPlace, name: &Name) -> Result<(), NoMemory>
-    requires long { AreLong nodes.old.seats }
-    requires agent { IsAgentPlace nodes.old.seats name.now place }
-    ensures leaves { IfOk result (λ _. LeavesAt name.now (Some place.node) nodes.old.seats nodes.new.seats) }
-    ensures failed { IfOk result (λ _. nodes.new.failed ≡ nodes.old.failed) }
-{
-    nodes.remove_agent(place, name)?;
-    clear_node(nodes, place.node);
-    Ok(())
-}
-
-/// An agent goes from the control node of this name.
+/// An agent goes from the control node of this name, which tells nobody yet.
 fn leave(nodes: &mut Nodes, name: &Name, control: &Name) -> Result<(), NoMemory>
-    requires long { AreLong nodes.old.seats }
     requires agent { HasAgent nodes.old.seats name.now control.now }
-    ensures leaves { IfOk result (λ _. LeavesAt name.now (seats_of.seat_named nodes.old.seats control.now)
-        nodes.old.seats nodes.new.seats) }
+    ensures left { IfOk result (λ _. nodes.new.seats
+        ≡ left_at name.now (seats_of.seat_named nodes.old.seats control.now) nodes.old.seats) }
     ensures failed { IfOk result (λ _. nodes.new.failed ≡ nodes.old.failed) }
 {
     match nodes.place_of(control, name) {
         None => Ok(()),
-        Some(place) => leave_at(nodes, place, name),
+        Some(place) => nodes.retire_agent(place, name),
     }
 }
 
-/// An agent goes from these control nodes, in turn.
+/// An agent goes from these control nodes.
 fn leave_all(nodes: &mut Nodes, name: &Name, controls: &[Name]) -> Result<(), NoMemory>
     requires long { AreLong nodes.old.seats }
     requires left { AreLeft nodes.old.seats name.now controls.now }
-    ensures leaves { IfOk result (λ _. LeavesAll name.now controls.now nodes.old.seats nodes.new.seats) }
+    ensures left { IfOk result (λ _. nodes.new.seats ≡ left_all name.now controls.now nodes.old.seats) }
     ensures failed { IfOk result (λ _. nodes.new.failed ≡ nodes.old.failed) }
 {
     for control in controls {
@@ -154,8 +143,69 @@ fn come_now(nodes: &mut Nodes, topology: &Topology, now: Option<&Node>) -> Resul
     }
 }
 
-/// A compute node that listed these control nodes moves, in a topology: its seat is another, it goes from them, and it
-/// comes to those that it lists then.
+/// The control node of a seat makes its pass. The sessions of which it closed its end go down.
+fn pass_at(nodes: &mut Nodes, node: u16) -> Result<(), NoMemory>
+    requires long { AreLong nodes.old.seats }
+    requires node { node < length nodes.old.seats }
+    requires control { (c : Controls) × ((seat nodes.old.seats node).who ≡ Controlling c) }
+    ensures passes { IfOk result (λ _. PassesAt (Some node) nodes.old.seats nodes.new.seats) }
+    ensures failed { IfOk result (λ _. nodes.new.failed ≡ nodes.old.failed) }
+{
+    nodes.tell(node)?;
+    clear_node(nodes, node);
+    Ok(())
+}
+
+/// The control node of this name makes its pass.
+fn pass(nodes: &mut Nodes, control: &Name) -> Result<(), NoMemory>
+    requires long { AreLong nodes.old.seats }
+    requires control { IsControlNode nodes.old.seats control.now }
+    ensures passes { IfOk result (λ _. PassesAt (seats_of.seat_named nodes.old.seats control.now) nodes.old.seats
+        nodes.new.seats) }
+    ensures failed { IfOk result (λ _. nodes.new.failed ≡ nodes.old.failed) }
+{
+    match nodes.seat_named(control) {
+        None => Ok(()),
+        Some(node) => pass_at(nodes, node),
+    }
+}
+
+/// These control nodes make their passes, in their order.
+fn pass_all(nodes: &mut Nodes, controls: &[Name]) -> Result<(), NoMemory>
+    requires long { AreLong nodes.old.seats }
+    requires controls { All (IsControlNode nodes.old.seats) controls.now }
+    ensures passes { IfOk result (λ _. PassesAll controls.now nodes.old.seats nodes.new.seats) }
+    ensures failed { IfOk result (λ _. nodes.new.failed ≡ nodes.old.failed) }
+{
+    for control in controls {
+        pass(nodes, control)?;
+    }
+    Ok(())
+}
+
+/// A compute node that listed these control nodes is moved, in a topology: its seat is another, it goes from them, and it
+/// comes to those that it lists. None of them makes its pass.
+fn resettle(
+    alloc: Global,
+    nodes: &mut Nodes,
+    topology: &Topology,
+    name: &Name,
+    left: &[Name],
+    now: Option<&Node>,
+) -> Result<(), NoMemory>
+    requires long { AreLong nodes.old.seats }
+    requires can { CanMove topology.now
+        (record { name = name.now; left = left.now; now = option_copied now }) nodes.old.seats }
+    ensures moved { IfOk result (λ _. nodes.new.seats ≡ before_passes topology.now
+        (record { name = name.now; left = left.now; now = option_copied now.entry }) nodes.old.seats) }
+    ensures failed { IfOk result (λ _. nodes.new.failed ≡ nodes.old.failed) }
+{
+    nodes.reseat(alloc, topology, *name, now)?;
+    leave_all(nodes, name, left)?;
+    come_now(nodes, topology, now)
+}
+
+/// A compute node that listed these control nodes moves, in a topology, and then each of them makes its pass.
 fn move_from(
     alloc: Global,
     nodes: &mut Nodes,
@@ -171,9 +221,8 @@ fn move_from(
         (record { name = name.now; left = left.now; now = option_copied now.entry }) nodes.old.seats nodes.new.seats) }
     ensures failed { IfOk result (λ _. nodes.new.failed ≡ nodes.old.failed) }
 {
-    nodes.reseat(alloc, topology, *name, now)?;
-    leave_all(nodes, name, left)?;
-    come_now(nodes, topology, now)
+    resettle(alloc, nodes, topology, name, left, now)?;
+    pass_all(nodes, left)
 }
 
 /// A compute node moves, in a topology that it leads to.

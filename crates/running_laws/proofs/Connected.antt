@@ -12,14 +12,14 @@ use Rattle.ov_link.specs.declared.step.Input.TheVariants as input
 use Rattle.node_model.specs.Maps.{Map}
 use Rattle.node_model.specs.Step.{Post, post}
 use Rattle.machine_laws.specs.MachineModel.Setup.{Name}
-use Rattle.machine_laws.specs.MachineModel.Session.{Session, is_idle, is_live, greeting, opened, passed, told, turned}
+use Rattle.machine_laws.specs.MachineModel.Session.{Session, is_idle, is_live, greeting, opened, passed, turned}
 use Rattle.machine_laws.specs.MachineModel.Network.{MachineState, view, views_of, wanted}
 use Rattle.machine_laws.specs.MachineModel.Steps.{around, change_session, connect, is_broken, joins, pass, session_of, with_session}
 use Rattle.machine_laws.specs.MachineModel.Moments.{nodes}
 use Rattle.machine_laws.proofs.MachineModel.Deeds.{others_stay, strangers_stay}
 use Rattle.machine_laws.proofs.MachineModel.NetworkFact.{opened_nodes, passed_nodes}
 use Rattle.machine_laws.proofs.MachineModel.SessionFact.{Down, IsTidy}
-use Rattle.running_model.specs.Seats.{Seat, far_of, is_down_at, link, link_at, live_at, name_of, notice, notice_at, other, seat, whole_at}
+use Rattle.running_model.specs.Seats.{Seat, far_of, is_down_at, link, link_at, live_at, name_of, notice, notice_at, other, seat}
 use Rattle.running_model.specs.Steps.{Takes, cleared, with_seat}
 use Rattle.running_model.specs.Stands.{Seats}
 use Rattle.running_model.specs.declared.place.SessionPlace.{SessionPlace}
@@ -33,7 +33,7 @@ use Rattle.running_laws.proofs.Clearing.{IsCleared, all_cleared, clear_from, cle
 use Rattle.running_laws.proofs.Ends.{IsReady, fact_ready}
 use Rattle.running_laws.proofs.Facts.{Facts, IsRight}
 use Rattle.running_laws.proofs.Here.{Here, here}
-use Rattle.running_laws.proofs.Lists.{AreAlike, same_far_of, same_name_at, same_other, same_other_at, same_place, same_who, seat_elsewhere, seat_here}
+use Rattle.running_laws.proofs.Lists.{AreAlike, same_far_of, same_name_at, same_other, same_other_at, same_place, seat_elsewhere, seat_here}
 use Rattle.running_laws.proofs.Lists.{seats_fit, there_or_nobody, with_alike}
 use Rattle.running_laws.proofs.Opens.{open_passed, open_whole, opened_right, passed_right, stepped_live, told_whole}
 use Rattle.running_laws.proofs.Sent.{AllLeft, opened_tells, opening_session, passed_tells, telling_session, told_down, wanted_messages}
@@ -404,9 +404,6 @@ module _ (facts : Facts) (seats : List Seat) (w : MachineState) (moment : IsMome
       y_p : seat both_opened p.node ≡ n1
       y_p = y_else p.node off_q ∙ seat_p
 
-      who_o : (seat opened_seats q.node).who ≡ (seat seats q.node).who
-      who_o = same_who seats opened_seats going_o.alike q.node
-
       going_y : Going seats both_opened
       going_y = record {
         alike = with_alike q.node n2 opened_seats takes.stepped.who ∙ going_o.alike;
@@ -461,10 +458,6 @@ module _ (facts : Facts) (seats : List Seat) (w : MachineState) (moment : IsMome
             breaks = s.breaks;
             notice = waits ∙ sym (ap (λ n. notice n r.session) (z_else r.node ne));
           }
-
-      -- whole ends of the session
-      whole_p : (u : List Seat) → live_at u p ≡ true → notice_at u p ≡ false → whole_at u p ≡ true
-      whole_p u e f = λ i. e i && not (f i)
 
       quiet_n1 : notice n1 p.session ≡ false
       quiet_n1 = ap (λ bs. slice_index_or bs p.session false) takes1.stepped.notices ∙ quiet

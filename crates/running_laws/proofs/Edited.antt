@@ -1,5 +1,5 @@
 -- An edit is made: the seats of a network whose sessions moved, and the configuration node, which makes its pass.
-use Rattle.std.specs.Prelude.{◌≡◌, ◌≢◌, ◌⊎◌, ◌<◌, ℕ, List, [], ◌∷◌, map, length, Bool, true, false, cond, not, IsTrue}
+use Rattle.std.specs.Prelude.{◌≡◌, ◌≢◌, ◌⊎◌, ◌<◌, ℕ, List, [], ◌∷◌, map, length, Bool, true, false, cond, IsTrue}
 use Rattle.std.specs.Prelude.{option_and_then}
 use Rattle.std.specs.List.{slice_index_or, slice_set}
 use Rattle.std.specs.Option.{option_map, unwrap_or}
@@ -19,52 +19,38 @@ use Rattle.schedule_script.specs.ConfigCheck.Edits as config_edits
 use Rattle.schedule_script.specs.ConfigCheck.Edits.{edit_fault}
 use Rattle.schedule_script.specs.ConfigCheck.EditFault.{EditFault}
 use Rattle.node_core.specs.Keeping.{AreSwept}
-use Rattle.node_model.specs.Step.{Post, nothing, post}
+use Rattle.node_model.specs.Step.{Post}
 use Rattle.machine_laws.specs.MachineModel.Setup.{Move, Name, Setup, checked, edited_without, moves, renumbered}
-use Rattle.machine_laws.specs.MachineModel.Session.{Message, Open, Keepalive, Hello, Carries, Session, is_idle, is_live, is_peering, turned}
+use Rattle.machine_laws.specs.MachineModel.Session.{Message, Open, Keepalive, Hello, Carries, is_peering}
 use Rattle.machine_laws.specs.MachineModel.Network.{MachineState, config}
-use Rattle.machine_laws.specs.MachineModel.Steps.{change_session, joins, pass, session_of, with_session}
+use Rattle.machine_laws.specs.MachineModel.Steps.{pass, session_of}
 use Rattle.machine_laws.specs.MachineModel.Events as events
 use Rattle.machine_laws.specs.MachineModel.Events.{Edits, answer_to, edit_answer, edits, next}
 use Rattle.machine_laws.specs.MachineModel.Moments.{EditIsValid}
 use Rattle.machine_laws.proofs.MachineModel.NetworkFact.{found, moved_sound}
 use Rattle.machine_laws.proofs.MachineModel.NodesFact.{pass_nodes}
-use Rattle.machine_laws.proofs.MachineModel.SessionFact.{Fact, Fact-turned}
 use Rattle.machine_laws.specs.Headline.{IsOfForm}
-use Rattle.running_model.specs.Seats.{Seat, Who, Configuring, far_of, index_from, is_name, kept_in, name_of, names_of, nobody, other}
+use Rattle.running_model.specs.Seats.{Seat, Who, Configuring, far_of, index_from, is_name, name_of, names_of, nobody, other}
 use Rattle.running_model.specs.Seats.{others_of, place_at, place_of, seat, seat_named, whos}
 use Rattle.running_model.specs.Moving.{MovesIf}
 use Rattle.running_model.specs.Steps.{IsStepped, as_it_is, cleared, with_seat}
-use Rattle.running_model.specs.Stands.{IsEnd, IsLong, KeepsPart, Seats, message_size, octets_of}
+use Rattle.running_model.specs.Stands.{IsLong, KeepsPart, Seats, message_size, octets_of}
 use Rattle.running_model.specs.declared.place.SessionPlace.{SessionPlace}
 use Rattle.running_model.proofs.Sizes.{positive}
 use Rattle.running_laws.specs.Moments.{IsMoment}
 use Rattle.running_laws.specs.Wiring.{IsPlace, name_at, other_at}
 use Rattle.running_laws.proofs.Named.{forms}
 use Rattle.running_laws.specs.Editing.{EditsAreMade, FaultyEditsAreRefused}
+use Rattle.running_laws.proofs.Anew.{told_anew}
 use Rattle.running_laws.proofs.AtMoments.{IsSound, all_quiet, moment_right, moment_sound, stands_at}
-use Rattle.running_laws.proofs.Building.{IsPart, SameEnd, end_refl, part_at, part_same, seats_by_places, vacant_same}
-use Rattle.running_laws.proofs.Ends.{IsReady, fact_ready}
+use Rattle.running_laws.proofs.Building.{IsPart, SameEnd, end_refl, part_same, seats_by_places, vacant_same}
 use Rattle.running_laws.proofs.Facts.{Facts, IsRight, right_computers}
-use Rattle.running_laws.proofs.Ghost.{setup_after}
-use Rattle.running_laws.proofs.Here.{Here, end_at, here, part_here}
+use Rattle.running_laws.proofs.Resettled.{setup_after}
+use Rattle.running_laws.proofs.Here.{end_at}
 use Rattle.running_laws.proofs.Lists.{AreFit, EndAt, index_map, place_with, seat_elsewhere, seat_here, seats_fit, who_at}
-use Rattle.running_laws.proofs.Marks.{kept_nothing}
-use Rattle.running_laws.proofs.Moved.{moved_stands, reconfigured}
-use Rattle.running_laws.proofs.Sent.{told_none}
-use Rattle.running_laws.proofs.Stepped.{stands_soundly, taking}
+use Rattle.running_laws.proofs.Moved.{moved_stands}
+use Rattle.running_laws.proofs.Reconfigured.{reconfigured}
 use Rattle.running_laws.proofs.Unmoved.{unmoved}
-
--- a session that is not changed
-unchanged : (a b : Name) (ss : List Session) → with_session a b (λ s. s) ss ≡ ss
-unchanged a b [] = refl
-unchanged a b (s ∷ ss) = by_tests (joins a b s) (joins b a s) (unchanged a b ss)
-  where
-    by_tests : (c d : Bool) → with_session a b (λ s. s) ss ≡ ss
-        → cond c (s ∷ ss) (cond d (turned (turned s) ∷ ss) (s ∷ with_session a b (λ s. s) ss)) ≡ s ∷ ss
-    by_tests true d e = refl
-    by_tests false true e = refl
-    by_tests false false e = ap (λ ts. s ∷ ts) e
 
 -- ---- the configuration node
 some_controllers : (t : Topology) → IsTrue (has_topology_form t) → 0 < length t.controllers
@@ -249,9 +235,6 @@ first_some (c ∷ cs) lt = (c.name, refl)
 module _ (facts : Facts) (seats : List Seat) (v : MachineState) (stands : Seats seats v) (sound : IsSound v)
     (later : IsMoment (pass config v)) (n' : Seat) (stepped : IsStepped (seat seats 0) n' 0 (as_it_is (seat seats 0)))
     (swept : AreSwept n'.posts (seat seats 0).kept n'.kept) where
-  abbrev me : Seat
-  me = seat seats 0
-
   right_v : IsRight v
   right_v = record {
     written = facts.moments.written (pass config v) later;
@@ -270,61 +253,10 @@ module _ (facts : Facts) (seats : List Seat) (v : MachineState) (stands : Seats 
       place_with seats p first.0
       (ap (λ (who : Who). slice_index_or (others_of who) 0 None) (who_is seats v stands) ∙ first.1)
 
-  abbrev at : Here seats v p
-  at = here facts.wired seats v right_v stands p is
-
-  abbrev s : Session
-  s = at.session
-
-  abbrev q : SessionPlace
-  q = at.far.far
-
-  fact : Fact message_size s
-  fact = found (Fact message_size) (Fact-turned message_size) v.sessions (name_at seats p) (other_at seats p) sound s at.found
-
-  ready : IsReady s
-  ready = fact_ready s fact
-
-  -- an end that is not live keeps nothing, so that what is kept is kept
-  abbrev left : List ℕ
-  left = kept_in me 0
-
-  nothing_left : cond (is_idle (post me.posts 0).phase) [] left ≡ left
-  nothing_left = by_idle (is_idle (post me.posts 0).phase) refl
-    where
-      by_idle : (b : Bool) → is_idle (post me.posts 0).phase ≡ b → cond b [] left ≡ left
-      by_idle true e =
-          let closed : is_live s.near ≡ false = ap not (ap is_idle at.near_is.phase ∙ e) in
-          let d = ready.near closed in
-          sym (kept_nothing me 0 s at.near_is (d.near.notice ∙ closed) d.far.taken)
-      by_idle false e = refl
-
-  as_before : taking me 0 (as_it_is me) left ≡ me
-  as_before = λ x. record me {
-    posts = set-get_or me.posts 0 nothing x;
-    kept = (ap (slice_set me.kept 0) nothing_left ∙ set-get_or me.kept 0 []) x;
-  }
-
-  abbrev same_v : MachineState
-  same_v = change_session (name_at seats p) (other_at seats p) (λ s. s) v
-
-  is_v : same_v ≡ v
-  is_v = ap (λ (ss : List Session). record { setup = v.setup; sessions = ss }) (unchanged (name_at seats p) (other_at seats p) v.sessions)
-
   pub configured_stands : Seats (cleared (with_seat 0 n' seats) 0) (pass config v)
   configured_stands =
       subst (λ (name : Name). Seats (cleared (with_seat 0 n' seats) 0) (pass name v)) (ap name_of (who_is seats v stands))
-      (subst (λ u. Seats (cleared (with_seat 0 n' seats) 0) (pass (name_at seats p) u)) is_v
-      (stands_soundly facts.wired seats v right_v stands p is seats refl (seats_fit seats v stands)
-      (λ r _ _ _. end_refl (seat seats r.node) r.session)
-      (as_it_is me) left (λ s. s) (λ s. refl) s [] (sym (told_none s)) refl
-      (subst (λ n. IsEnd n 0 s) (sym as_before) at.near_is) at.far_is
-      (subst (λ n. IsPart n 0 (seat seats q.node) q.session) (sym as_before)
-      (part_at seats p q at.far.found (part_here facts.wired seats v right_v stands p is)))
-      (subst (λ n. IsPart (seat seats q.node) q.session n 0) (sym as_before)
-      (part_at seats q p at.far.back (part_here facts.wired seats v right_v stands q at.far.is_place)))
-      ready (λ _. refl) (subst IsSound (sym is_v) sound) n' stepped
-      (subst (λ kept. AreSwept n'.posts kept n'.kept) (sym (set-get_or me.kept 0 [])) swept)))
+      (told_anew facts.wired seats v right_v sound stands 0 is n' stepped swept)
 
 -- ---- a compute node moves, or none does
 module _ (facts : Facts) (seats : List Seat) (w : MachineState) (moment : IsMoment w) (stands : Seats seats w) (e : Edit)

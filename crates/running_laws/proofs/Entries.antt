@@ -25,7 +25,7 @@ use Rattle.machine_laws.proofs.MachineModel.Distinct.{Apart, same_false}
 use Rattle.machine_laws.proofs.MachineModel.Listed.{moved_setup}
 use Rattle.running_model.specs.Stands.{message_size}
 use Rattle.running_laws.specs.Moments.{IsMoment, after_moves, moved}
-use Rattle.running_laws.proofs.Ghost.{setup_after}
+use Rattle.running_laws.proofs.Resettled.{setup_after}
 
 abbrev pub HasEntries : Setup → Type 0
 HasEntries x = map (λ (n : Numbers). n.control) x.numbers ≡ map (λ (c : NodeId). c.name) x.topology.controllers

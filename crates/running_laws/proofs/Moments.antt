@@ -1,5 +1,5 @@
 -- What holds at every moment of its configuration and of its sessions, and the moment after the next move.
-use Rattle.std.specs.Prelude.{IsTrue, List, map, [], ◌++◌, ◌∷◌, ◌≡◌}
+use Rattle.std.specs.Prelude.{List, [], ◌++◌, ◌∷◌, ◌≡◌}
 use Rattle.std.specs.declared.option.Option.TheVariants.{None, Some}
 use Rattle.std.specs.declared.option.Option.{Option}
 use Rattle.std.proofs.Common.{ap, refl, subst, sym, ◌∙◌}
@@ -13,7 +13,7 @@ use Rattle.node_model.specs.Members.{Member}
 use Rattle.ov_types.specs.declared.rows.NodeId.{NodeId}
 use Rattle.node_model.proofs.Members.{none_some}
 use Rattle.machine_laws.specs.MachineModel.Events.{MachineEvent, after, next}
-use Rattle.machine_laws.specs.MachineModel.Moments.{Each, EditIsValid, EditsAreValid, HasSessions, IsLaidOut, LaidOut, NumbersFit, nodes}
+use Rattle.machine_laws.specs.MachineModel.Moments.{Each, EditIsValid, EditsAreValid, HasSessions, IsLaidOut, LaidOut, NumbersFit}
 use Rattle.machine_laws.specs.MachineModel.Network.{MachineState, sessions_of, start}
 use Rattle.machine_laws.specs.MachineModel.Session.{Session}
 use Rattle.machine_laws.specs.MachineModel.Setup.{Setup, agents_of, checked, edited, edited_without, opening}

@@ -1,55 +1,47 @@
 -- A compute node comes, goes, or lists other control nodes than before: the seats then, once the configuration node has
 -- what is valid then, are those of the network whose sessions moved.
-use Rattle.std.specs.Prelude.{◌≡◌, ◌≢◌, ◌<◌, ℕ, zero, suc, ◌+◌, List, [], ◌∷◌, ◌++◌, map, length, cond, not}
+use Rattle.std.specs.Prelude.{◌≡◌, ◌≢◌, ◌<◌, ℕ, ◌+◌, List, [], ◌∷◌, ◌++◌, map, length, cond, not}
 use Rattle.std.specs.declared.option.Option.{Option}
 use Rattle.std.specs.declared.option.Option.TheVariants.{Some, None}
 use Rattle.std.specs.List.{slice_index_or}
-use Rattle.std.proofs.lemmas.List.{length-map}
-use Rattle.std.proofs.Common.{refl, sym, ◌∙◌, ap, subst, inl, inr, arith}
+use Rattle.std.proofs.lemmas.List.{length-map, map-append}
+use Rattle.std.proofs.Common.{refl, sym, ◌∙◌, ap, subst, inl, inr}
 use Rattle.ov_types.specs.First.{same_name}
 use Rattle.ov_types.specs.declared.rows.NodeId.{NodeId}
 use Rattle.config_types.specs.declared.edit.Edit.{Edit}
 use Rattle.config_types.specs.declared.topology.Node.{Node}
 use Rattle.config_types.specs.declared.topology.Topology.{Topology}
-use Rattle.schedule_script.specs.ConfigCheck.Checked.{Checked}
 use Rattle.schedule_script.specs.ConfigCheck.Edits as config_edits
 use Rattle.schedule_script.specs.ConfigCheck.Edits.{edit_fault}
 use Rattle.schedule_script.specs.ConfigCheck.Finding.{node_named}
 use Rattle.schedule_script.specs.ConfigCheck.Rules.{controller_names, node_names}
 use Rattle.node_model.specs.Members.{Member}
 use Rattle.node_model.proofs.Members.{from_filter, from_map, in_either, in_map}
-use Rattle.machine_laws.specs.MachineModel.Setup.{Move, Name, Setup, agents_of, checked, listed_by, lists, moves}
+use Rattle.machine_laws.specs.MachineModel.Setup.{Move, Name, Setup, agents_of, checked, listed_by, moves}
 use Rattle.machine_laws.specs.MachineModel.Network.{MachineState, config}
 use Rattle.machine_laws.specs.MachineModel.Events.{Edits, moved}
 use Rattle.machine_laws.specs.MachineModel.Moments.{EditIsValid}
 use Rattle.machine_laws.proofs.MachineModel.Changing.{found_member}
-use Rattle.machine_laws.proofs.MachineModel.Distinct.{apart_right}
+use Rattle.machine_laws.proofs.MachineModel.Distinct.{Apart, apart_right, same_false}
 use Rattle.machine_laws.specs.Headline.{IsOfForm}
 use Rattle.running_laws.proofs.Named.{AreNodes, are_nodes}
-use Rattle.running_model.specs.Seats.{Who, Configuring, Controlling, Forwarding, Seat, agent_plan, control_plan, controller_named, index_from, is_name, name_there, names_of}
-use Rattle.running_model.specs.Seats.{nobody, other, seat}
-use Rattle.running_model.specs.Moving.{Moves, reseated, seats_of}
+use Rattle.running_model.specs.Seats.{Who, Configuring, Controlling, Seat, control_plan, controller_named, index_from, is_name, name_there, names_of}
+use Rattle.running_model.specs.Seats.{name_of, nobody, seat}
+use Rattle.running_model.specs.Moving.{Moves, before_passes, came, reseated, seats_of}
 use Rattle.running_model.specs.Stands.{Seats}
-use Rattle.running_model.specs.Steps.{with_seat}
 use Rattle.running_laws.specs.Moments.{IsMoment}
 use Rattle.running_laws.proofs.FirstPlaces.{member_of_at}
 use Rattle.running_laws.proofs.AtMoments.{moment_right}
-use Rattle.running_laws.proofs.Clearing.{place}
 use Rattle.running_laws.proofs.Facts.{Facts, IsRight}
-use Rattle.running_laws.proofs.Ghost.{resettled, setup_after}
-use Rattle.running_laws.proofs.GhostCleared.{not_same}
-use Rattle.running_laws.proofs.GhostWho.{IsNow}
-use Rattle.running_laws.proofs.Lists.{fit_within, seats_fit, who_at}
-use Rattle.running_laws.proofs.MovedBase.{agents_are, base_stands, names_of_all, nodes_are, not_front, now_there, renewed}
-use Rattle.running_laws.proofs.MovedEnd.{IsClearBut, Stage, stage_end, stage_last}
-use Rattle.running_laws.proofs.MovedFrom.{IsFit, agent_or_none, all_reseated, fresh_fit, name_listed, names_off, node_found, site_found}
-use Rattle.running_laws.proofs.MovedNodes.{agent_in, seated_who}
+use Rattle.running_laws.proofs.Left.{IsClear, IsClearBut, all_came, all_left, clear_then, names, peers_past}
+use Rattle.running_laws.proofs.Lists.{who_at}
+use Rattle.running_laws.proofs.MovedBase.{agents_are, base_stands, names_map, names_of_all, nodes_are, not_front, renewed, seat_names}
+use Rattle.running_laws.proofs.MovedFrom.{agent_or_none, name_listed, names_off, node_found, site_found}
+use Rattle.running_laws.proofs.MovedNodes.{agent_in, resettled_who, resettled_whos, seated_who}
 use Rattle.running_laws.proofs.MovedRight.{right_resettled, sound_resettled}
-use Rattle.running_laws.proofs.MovedStep.{Between, IsClear, peers_past}
-
--- the configuration node has what is valid then, and did nothing yet
-abbrev pub reconfigured : Checked → List Seat → List Seat
-reconfigured y seats = with_seat 0 (record (seat seats 0) { who = Configuring y }) seats
+use Rattle.running_laws.proofs.Passes.{passes_stand}
+use Rattle.running_laws.proofs.Reconfigured.{IsOf, reconfigured, same_passes}
+use Rattle.running_laws.proofs.Resettled.{resettled, resettled_seat, setup_after}
 
 module _ (facts : Facts) (seats : List Seat) (w : MachineState) (moment : IsMoment w) (stands : Seats seats w) (e : Edit)
     (form : EditIsValid IsOfForm w (Edits e)) (none : edit_fault (checked w.setup) e ≡ None) (m : Move)
@@ -87,13 +79,6 @@ module _ (facts : Facts) (seats : List Seat) (w : MachineState) (moment : IsMome
   config_off : config ≢ m.name
   config_off = not_front facts seats w moment stands e form none m is config (inl refl)
 
-  is_now : IsNow m.name m.now
-  is_now = by_now m.now refl
-    where
-      by_now : (o : Option Node) → m.now ≡ o → IsNow m.name o
-      by_now None f = tt
-      by_now (Some k) f = (now_there facts seats w moment stands e form none m is k f).1
-
   -- what it listed are control nodes
   nodes_before : AreNodes t
   nodes_before = are_nodes w.setup right.written.topology right.written.valid
@@ -122,27 +107,18 @@ module _ (facts : Facts) (seats : List Seat) (w : MachineState) (moment : IsMome
       (nodes_are facts seats w moment stands e form none m is)
       (agents_are facts seats w moment stands e form none m is) seats stands.who
 
-  fit_r : (k : ℕ) → k < length r → IsFit (seat r k)
-  fit_r =
-      all_reseated IsFit m.name (seats_of y.topology m.now) seats (by_now m.now)
-      (λ k lt. record {
-        long = (seats_fit seats w stands).long k lt;
-        vacant = λ i nobody_there. (seats_fit seats w stands).vacant (place k i) nobody_there;
-      })
-    where
-      by_now : (now : Option Node) (k : ℕ) → k < length (seats_of y.topology now) → IsFit (seat (seats_of y.topology now) k)
-      by_now None k lt = absurd (omega (arith, lt))
-      by_now (Some n) zero lt = fresh_fit (Forwarding (agent_plan y.topology n))
-      by_now (Some n) (suc k) lt = absurd (omega (arith, lt))
+  -- the nodes have the names that they have then
+  names_are : names r ≡ config ∷ controller_names y.topology ++ node_names y.topology
+  names_are =
+      let f : NodeId → Who = λ c. Controlling (control_plan w.setup c) in
+      seat_names r ∙ ap (map name_of) whos_are
+      ∙ ap (λ (ns : List Name). config ∷ ns)
+      (map-append name_of (map f t.controllers) (map (agent_in t.controllers) y.topology.nodes)
+      ∙ (λ i. (names_map f t.controllers ∙ ap (map (λ (d : NodeId). d.name)) (sym same_sites)) i
+      ++ names_map (agent_in t.controllers) y.topology.nodes i))
 
-  first : (x : Checked) × ((seat r 0).who ≡ Configuring x) × (x.topology.controllers ≡ y.topology.controllers)
-  first = (checked w.setup, who_at r 0 ∙ ap (λ ws. slice_index_or ws 0 nobody.who) whos_are, sym same_sites)
-
-  between : Between (checked y) r
-  between = record {
-    first = first;
-    fit = fit_within r (λ k lt. (fit_r k lt).long) (λ k i lt less none. (fit_r k lt).vacant i none);
-  }
+  apart : Apart (names r)
+  apart = subst Apart (sym names_are) (names_of_all (resettled m y w) right_then)
 
   -- ---- with whom it has sessions
   control_clear : (d : NodeId) → Member d t.controllers → IsClearBut m.name m.left (Controlling (control_plan w.setup d))
@@ -155,13 +131,16 @@ module _ (facts : Facts) (seats : List Seat) (w : MachineState) (moment : IsMome
             let found = subst (λ name. node_named t name ≡ Some n.0) same
             (node_found t.nodes (apart_right (controller_names t) (node_names t) (names_of_all w right).1) n.0 n.1)
             in
-            inr (control_plan w.setup d, refl, subst (Member d.name) (sym (left_is ∙ ap listed_by found)) (name_listed d.name n.0.controllers n.3))
+            inr (
+              subst (Member d.name) (sym (left_is ∙ ap listed_by found)) (name_listed d.name n.0.controllers n.3),
+              clear_then m.name (control_plan w.setup d) config_off (λ p j. sites_off p (peer_in p j)),
+            )
         | inr h ↦
             inl (
               ap (λ agents. Controlling (record (control_plan w.setup d) { agents = agents })) h.0,
               ap (λ b. cond b (Some 0) (index_from 1 (is_name m.name)
                   (names_of (control_plan w.setup d).peers ++ map name_there (agents_of w.setup d.name))))
-                  (not_same config m.name config_off)
+                  (same_false config m.name config_off)
                   ∙ peers_past m.name (control_plan w.setup d).peers (λ p j. sites_off p (peer_in p j))
                   (map name_there (agents_of w.setup d.name)) 1 (1 + length (control_plan w.setup d).peers) refl
                   ∙ h.1 (1 + length (control_plan w.setup d).peers),
@@ -203,25 +182,39 @@ module _ (facts : Facts) (seats : List Seat) (w : MachineState) (moment : IsMome
                 subst (IsClearBut m.name m.left) n.2 (inl (agent_clear n.0 n.1))
           ]
 
-  sites_off_then : (d : NodeId) → Member d y.topology.controllers → d.name ≢ m.name
-  sites_off_then d i = sites_off d (subst (Member d) same_sites i)
+  -- ---- it went from all that it listed, and came to those that it lists
+  abbrev before : List Seat
+  before = before_passes y.topology m seats
 
-  stage : Stage facts.wired y m.name m.now is_now sites_off_then config_off m.left r (resettled m y w)
-  stage = record {
-    setup = refl;
-    between = between;
-    right = right_then;
-    sound = sound_resettled facts w moment e form none m is;
-    stands = base_stands facts seats w moment stands e form none m is;
-    clear = clear;
-  }
+  before_is : before ≡ map (resettled_seat m.name m.now) r
+  before_is = ap (came m.now) (all_left m.name m.left r apart clear) ∙ all_came m.name m.now r
 
+  -- the configuration node is as it was
+  is_of : IsOf (checked y) before
+  is_of = (
+    checked w.setup,
+    ap (λ (ss : List Seat). (seat ss 0).who) before_is ∙ who_at (map (resettled_seat m.name m.now) r) 0
+        ∙ ap (λ ws. slice_index_or ws 0 nobody.who) (resettled_whos m.name m.now r ∙ ap (map (resettled_who m.name m.now)) whos_are),
+    sym same_sites,
+  )
+
+  stands_before : Seats (reconfigured (checked y) before) (resettled m y w)
+  stands_before =
+      subst (λ ss. Seats (reconfigured (checked y) ss) (resettled m y w)) (sym before_is)
+      (base_stands facts seats w moment stands e form none m is)
+
+  not_config : (c : Name) → Member c m.left → config ≢ c
+  not_config c i same =
+      let d = sites c i in
+      nodes_then.no_site_config d.0 d.1 (d.2 ∙ sym same)
+
+  -- ---- then they make their passes
   all_moved : (after : List Seat) → Moves y.topology m seats after
       → Seats (reconfigured (checked y) after) (moved (Some m) (record { setup = y; sessions = w.sessions }))
   all_moved after made =
-      subst (λ a. Seats (reconfigured (checked y) a) (moved (Some m) (record { setup = y; sessions = w.sessions }))) (sym made.comes)
-      (stage_end facts.wired y m.name m.now is_now sites_off_then config_off made.left (moved (Some m) (record { setup = y; sessions = w.sessions }))
-      (stage_last facts.wired y m.name m.now is_now sites_off_then config_off m.left r (resettled m y w) stage sites made.left made.leaves))
+      passes_stand facts.wired m.left (reconfigured (checked y) before) (reconfigured (checked y) after) (resettled m y w) right_then
+      (sound_resettled facts w moment e form none m is) stands_before sites
+      (same_passes (checked y) m.left not_config before after is_of made)
 
 pub moved_stands : Facts → (seats : List Seat) (w : MachineState) → IsMoment w → Seats seats w → (e : Edit)
     → EditIsValid IsOfForm w (Edits e) → edit_fault (checked w.setup) e ≡ None

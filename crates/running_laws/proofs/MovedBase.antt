@@ -47,12 +47,12 @@ use Rattle.running_laws.proofs.FirstPlaces.{at_of_member, member_of_at}
 use Rattle.running_laws.proofs.AtMoments.{moment_right}
 use Rattle.running_laws.proofs.Building.{SameEnd, part_at, part_none, part_of, part_same, seats_by_places}
 use Rattle.running_laws.proofs.Facts.{Facts, IsRight}
-use Rattle.running_laws.proofs.Ghost.{ghost, ghosts, resettled, setup_after}
+use Rattle.running_laws.proofs.Resettled.{resettled_seat, resettled_seats, resettled, setup_after}
 use Rattle.running_laws.proofs.Lists.{AreFit, EndAt, fit_within, named_by, place_with, seat_elsewhere, seat_here, seats_fit, who_at}
 use Rattle.running_laws.proofs.Members.{is_one_of}
-use Rattle.running_laws.proofs.MovedNodes.{agents_come, ghost_who, ghosted, moved_who, news, nodes_renoded, renoded}
+use Rattle.running_laws.proofs.MovedNodes.{agents_come, who_resettled, resettled_who, moved_who, news, nodes_renoded, renoded}
 use Rattle.running_laws.proofs.MovedRight.{right_resettled}
-use Rattle.running_laws.proofs.MovedSeat.{Fades, fresh_long, fresh_vacant, ghost_fades}
+use Rattle.running_laws.proofs.MovedSeat.{Fades, fresh_long, fresh_vacant, resettled_fades}
 use Rattle.running_laws.proofs.MovedSessions.{IsBare, IsBareFor, bare_turned, brought_own, replaced_bare, replaced_in}
 use Rattle.running_laws.proofs.Started.{HasNothing, taken_nowhere}
 
@@ -84,17 +84,17 @@ end_again n n' i s alike same h = record {
   taken = h.taken ∙ (λ j. cond (sym same.notice j) 0 (length (sym same.kept j)));
 }
 
-ghosted_spells : (name : Name) (now : Option Node) (who : Who) → SpellAlike who (ghosted name now who)
-ghosted_spells name now (Configuring x) b m = refl
-ghosted_spells name now (Controlling c) true Open = refl
-ghosted_spells name now (Controlling c) true Keepalive = refl
-ghosted_spells name now (Controlling c) true Hello = refl
-ghosted_spells name now (Controlling c) true (Carries d) = refl
-ghosted_spells name now (Controlling c) false Open = refl
-ghosted_spells name now (Controlling c) false Keepalive = refl
-ghosted_spells name now (Controlling c) false Hello = refl
-ghosted_spells name now (Controlling c) false (Carries d) = refl
-ghosted_spells name now (Forwarding plan) b m = refl
+resettled_spells : (name : Name) (now : Option Node) (who : Who) → SpellAlike who (resettled_who name now who)
+resettled_spells name now (Configuring x) b m = refl
+resettled_spells name now (Controlling c) true Open = refl
+resettled_spells name now (Controlling c) true Keepalive = refl
+resettled_spells name now (Controlling c) true Hello = refl
+resettled_spells name now (Controlling c) true (Carries d) = refl
+resettled_spells name now (Controlling c) false Open = refl
+resettled_spells name now (Controlling c) false Keepalive = refl
+resettled_spells name now (Controlling c) false Hello = refl
+resettled_spells name now (Controlling c) false (Carries d) = refl
+resettled_spells name now (Forwarding plan) b m = refl
 
 -- what a configuration node sends does not depend on what is valid
 configurations_spell : (a b : Checked) → SpellAlike (Configuring a) (Configuring b)
@@ -107,10 +107,10 @@ configurations_spell a b false Keepalive = refl
 configurations_spell a b false Hello = refl
 configurations_spell a b false (Carries d) = refl
 
-ghosted_name : (name : Name) (now : Option Node) (who : Who) → name_of (ghosted name now who) ≡ name_of who
-ghosted_name name now (Configuring x) = refl
-ghosted_name name now (Controlling c) = refl
-ghosted_name name now (Forwarding plan) = refl
+resettled_name : (name : Name) (now : Option Node) (who : Who) → name_of (resettled_who name now who) ≡ name_of who
+resettled_name name now (Configuring x) = refl
+resettled_name name now (Controlling c) = refl
+resettled_name name now (Forwarding plan) = refl
 
 -- ---- members of the seats
 in_reseated : (name : Name) (new seats : List Seat) → Apart (map (λ (n : Seat). name_of n.who) seats) → (n : Seat)
@@ -143,12 +143,12 @@ in_reseated name new (h ∷ seats) apart n m =
 member_seat : (seats : List Seat) (k : ℕ) → k < length seats → Member (seat seats k) seats
 member_seat seats k lt = member_of_at seats k nobody lt
 
-ghost_at : (name : Name) (now : Option Node) (seats : List Seat) (k : ℕ) → k < length (map (ghost name now) seats)
-    → (k < length seats) × (seat (map (ghost name now) seats) k ≡ ghost name now (seat seats k))
-ghost_at name now [] k lt = absurd (omega (arith, lt))
-ghost_at name now (n ∷ seats) zero lt = (omega arith, refl)
-ghost_at name now (n ∷ seats) (suc k) lt =
-    let q = ghost_at name now seats k (omega (arith, lt)) in
+resettled_at : (name : Name) (now : Option Node) (seats : List Seat) (k : ℕ) → k < length (map (resettled_seat name now) seats)
+    → (k < length seats) × (seat (map (resettled_seat name now) seats) k ≡ resettled_seat name now (seat seats k))
+resettled_at name now [] k lt = absurd (omega (arith, lt))
+resettled_at name now (n ∷ seats) zero lt = (omega arith, refl)
+resettled_at name now (n ∷ seats) (suc k) lt =
+    let q = resettled_at name now seats k (omega (arith, lt)) in
     (let l = q.0 in omega (arith, l), q.1)
 
 -- the first stays the first
@@ -190,11 +190,11 @@ reseat_fades name n g who same f = record {
     nothing_there i v = record { post = v.post; kept = v.kept; link = v.link; breaks = v.breaks; notice = v.notice }
 
 -- ---- names
-names_map : {A : Type 0} (f : A → Who) (xs : List A) → map name_of (map f xs) ≡ map (λ a. name_of (f a)) xs
+pub names_map : {A : Type 0} (f : A → Who) (xs : List A) → map name_of (map f xs) ≡ map (λ a. name_of (f a)) xs
 names_map f [] = refl
 names_map f (x ∷ xs) = ap (λ (ns : List Name). name_of (f x) ∷ ns) (names_map f xs)
 
-seat_names : (seats : List Seat) → map (λ (n : Seat). name_of n.who) seats ≡ map name_of (map (λ (n : Seat). n.who) seats)
+pub seat_names : (seats : List Seat) → map (λ (n : Seat). name_of n.who) seats ≡ map name_of (map (λ (n : Seat). n.who) seats)
 seat_names [] = refl
 seat_names (n ∷ seats) = ap (λ (ns : List Name). name_of n.who ∷ ns) (seat_names seats)
 
@@ -241,7 +241,7 @@ module _ (facts : Facts) (seats : List Seat) (w : MachineState) (moment : IsMome
   r = reseated m.name new seats
 
   abbrev gs : List Seat
-  gs = ghosts (checked y) m.name m.now r
+  gs = resettled_seats (checked y) m.name m.now r
 
   right : IsRight w
   right = moment_right facts.moments w moment
@@ -317,9 +317,9 @@ module _ (facts : Facts) (seats : List Seat) (w : MachineState) (moment : IsMome
       session_back k i (session_with (seat seats k) m.name)
       (sym (ap (place_at seats m.name) (named_by seats (name_at seats p) m.name p found)) ∙ found)
 
-  was_fades : (k : ℕ) → k < length seats → Fades m.name (seat seats k) (ghost m.name m.now (seat seats k))
+  was_fades : (k : ℕ) → k < length seats → Fades m.name (seat seats k) (resettled_seat m.name m.now (seat seats k))
   was_fades k lt =
-      ghost_fades m.name m.now (λ n now. (now_there n now).1) (seat seats k) (stands.long k lt)
+      resettled_fades m.name m.now (λ n now. (now_there n now).1) (seat seats k) (stands.long k lt)
       (λ i h. fit.vacant (record { node = k; session = i }) h) (sole k)
 
   -- what a seat comes from: one that was there, or a fresh one
@@ -352,33 +352,33 @@ module _ (facts : Facts) (seats : List Seat) (w : MachineState) (moment : IsMome
             ∙ (bytes_decides q.0.name m.name).1 (ap name_of q.2 ∙ h)
       ]
 
-  was_there : (k : ℕ) → k < length seats → is_agent_named m.name (seat seats k) ≡ false → Was (ghost m.name m.now (seat seats k))
+  was_there : (k : ℕ) → k < length seats → is_agent_named m.name (seat seats k) ≡ false → Was (resettled_seat m.name m.now (seat seats k))
   was_there k lt off =
       let n = seat seats k in
-      let named : name_of (ghost m.name m.now n).who ≡ name_of n.who =
-      ap name_of (ghost_who m.name m.now n) ∙ ghosted_name m.name m.now n.who in
+      let named : name_of (resettled_seat m.name m.now n).who ≡ name_of n.who =
+      ap name_of (who_resettled m.name m.now n) ∙ resettled_name m.name m.now n.who in
       record {
         from = k;
         within = lt;
         fades = was_fades k lt;
         name = named;
-        spells = λ b c. ap (λ w. octets_of w b c) (ghost_who m.name m.now n) ∙ ghosted_spells m.name m.now n.who b c;
+        spells = λ b c. ap (λ w. octets_of w b c) (who_resettled m.name m.now n) ∙ resettled_spells m.name m.now n.who b c;
         apart = λ h. true≢false (sym (agent_of_name n.who (is_one_of seats w stands k lt) (sym named ∙ h)) ∙ off);
       }
 
-  came_here : (now : Option Node) → ((k : Node) → now ≡ Some k → k.name ≡ m.name) → (n : Seat) → Member n (seats_of u now) → Came (ghost m.name now n)
+  came_here : (now : Option Node) → ((k : Node) → now ≡ Some k → k.name ≡ m.name) → (n : Seat) → Member n (seats_of u now) → Came (resettled_seat m.name now n)
   came_here None named n i = absurd i
   came_here (Some k) named n (inl same) =
-      subst (λ n. Came (ghost m.name (Some k) n)) same (record {
+      subst (λ n. Came (resettled_seat m.name (Some k) n)) same (record {
         long = fresh_long m.name u k (Some k);
         vacant = fresh_vacant m.name u k (Some k);
-        name = ap name_of (ghost_who m.name (Some k) (fresh_seat (Forwarding (agent_plan u k)))) ∙ named k refl;
+        name = ap name_of (who_resettled m.name (Some k) (fresh_seat (Forwarding (agent_plan u k)))) ∙ named k refl;
       })
   came_here (Some k) named n (inr i) = absurd i
 
   -- the configuration node
   abbrev root : Seat
-  root = record (seat (map (ghost m.name m.now) r) 0) { who = Configuring (checked y) }
+  root = record (seat (map (resettled_seat m.name m.now) r) 0) { who = Configuring (checked y) }
 
   some_seats : 0 < length seats
   some_seats = subst (λ k. 0 < k) (length-map seats (λ (n : Seat). n.who)) (subst (λ ws. 0 < length ws) (sym stands.who) (zero-lt-suc _))
@@ -393,10 +393,10 @@ module _ (facts : Facts) (seats : List Seat) (w : MachineState) (moment : IsMome
   root_was =
       let first = first_stays m.name new seats some_seats root_no_agent in
       let n = seat seats 0 in
-      let g : Seat = ghost m.name m.now n in
-      let long : 0 < length (map (ghost m.name m.now) r) = subst (λ k. 0 < k) (sym (length-map r (ghost m.name m.now))) first.0 in
-      let is_g : seat (map (ghost m.name m.now) r) 0 ≡ g = (ghost_at m.name m.now r 0 long).1 ∙ ap (ghost m.name m.now) first.1 in
-      let g_who : g.who ≡ Configuring (checked x) = ghost_who m.name m.now n ∙ ap (ghosted m.name m.now) root_who in
+      let g : Seat = resettled_seat m.name m.now n in
+      let long : 0 < length (map (resettled_seat m.name m.now) r) = subst (λ k. 0 < k) (sym (length-map r (resettled_seat m.name m.now))) first.0 in
+      let is_g : seat (map (resettled_seat m.name m.now) r) 0 ≡ g = (resettled_at m.name m.now r 0 long).1 ∙ ap (resettled_seat m.name m.now) first.1 in
+      let g_who : g.who ≡ Configuring (checked x) = who_resettled m.name m.now n ∙ ap (resettled_who m.name m.now) root_who in
       let same : others_of (Configuring (checked y)) ≡ others_of g.who =
       ap (λ (cs : List NodeId). map (λ (n : NodeId). Some n.name) cs) renewed.controllers ∙ ap others_of (sym g_who) in
       subst (λ (g : Seat). Was (record g { who = Configuring (checked y) })) (sym is_g) (record {
@@ -414,24 +414,24 @@ module _ (facts : Facts) (seats : List Seat) (w : MachineState) (moment : IsMome
   origin : (k : ℕ) → k < length gs → Was (seat gs k) ⊎ Came (seat gs k)
   origin k lt = by (cases_eq k 0)
     where
-      less : k < length (map (ghost m.name m.now) r)
-      less = subst (λ l. k < l) (length-set (map (ghost m.name m.now) r) 0 root) lt
+      less : k < length (map (resettled_seat m.name m.now) r)
+      less = subst (λ l. k < l) (length-set (map (resettled_seat m.name m.now) r) 0 root) lt
 
       other_seat : (k ≢ 0) → Was (seat gs k) ⊎ Came (seat gs k)
       other_seat ne =
-          let q = ghost_at m.name m.now r k less in
-          let here : seat gs k ≡ ghost m.name m.now (seat r k) = seat_elsewhere 0 k root (map (ghost m.name m.now) r) ne ∙ q.1 in
+          let q = resettled_at m.name m.now r k less in
+          let here : seat gs k ≡ resettled_seat m.name m.now (seat r k) = seat_elsewhere 0 k root (map (resettled_seat m.name m.now) r) ne ∙ q.1 in
           elim (in_reseated m.name new seats seats_apart (seat r k) (member_seat r k q.0)) as (λ _. Was (seat gs k) ⊎ Came (seat gs k)) [
             | inl i ↦ inr (subst Came (sym here) (came_here m.now (λ n now. (now_there n now).1) (seat r k) i))
             | inr i ↦
                 let j = at_of_member (seat r k) seats nobody i.0 in
-                inl (subst Was (ap (ghost m.name m.now) j.2 ∙ sym here) (was_there j.0 j.1 (ap (is_agent_named m.name) j.2 ∙ i.1)))
+                inl (subst Was (ap (resettled_seat m.name m.now) j.2 ∙ sym here) (was_there j.0 j.1 (ap (is_agent_named m.name) j.2 ∙ i.1)))
           ]
 
       by : (k ≡ 0) ⊎ (k ≢ 0) → Was (seat gs k) ⊎ Came (seat gs k)
       by (inl e) =
           inl (subst (λ k. Was (seat gs k)) (sym e)
-          (subst Was (sym (seat_here 0 root (map (ghost m.name m.now) r) (subst (λ k. k < length (map (ghost m.name m.now) r)) e less))) root_was))
+          (subst Was (sym (seat_here 0 root (map (resettled_seat m.name m.now) r) (subst (λ k. k < length (map (resettled_seat m.name m.now) r)) e less))) root_was))
       by (inr ne) = other_seat ne
 
   -- ---- the sessions

@@ -4,7 +4,6 @@ use Rattle.std.specs.List.{filter, slice_set}
 use Rattle.std.specs.declared.option.Option.{Option}
 use Rattle.std.specs.declared.option.Option.TheVariants.{Some, None}
 use Rattle.std.specs.Cmp.Lexicographic.{bytes_decides}
-use Rattle.std.proofs.lemmas.Bool.{true≢false}
 use Rattle.std.proofs.lemmas.List.{map-append, map-set}
 use Rattle.std.proofs.lemmas.List.Elements.{All-contains}
 use Rattle.std.proofs.lemmas.Option.{none-some, same_Some}
@@ -35,8 +34,7 @@ use Rattle.machine_laws.proofs.MachineModel.Distinct.{Apart, same_false}
 use Rattle.running_model.specs.Controls.{Controls}
 use Rattle.running_model.specs.Seats.{Who, Configuring, Controlling, Forwarding, Seat, agent_plan, control_plan, name_of, role_of, seat, whos}
 use Rattle.running_model.specs.Moving.{is_agent_named, is_listed_who, joined_by, reseated, retired_of, seats_of, vacated}
-use Rattle.running_model.specs.Steps.{with_seat}
-use Rattle.running_laws.proofs.Ghost.{ghost, ghosts}
+use Rattle.running_laws.proofs.Resettled.{resettled_seat, resettled_seats}
 
 -- ---- the nodes of the topology
 abbrev pub news : Option Node → List Node
@@ -211,13 +209,13 @@ rewho_agents name cs new (n ∷ ns) =
     ]
 
 -- who goes and comes
-abbrev pub ghosted : Name → Option Node → Who → Who
-ghosted name now (Configuring x) = Configuring x
-ghosted name now (Controlling c) = Controlling (record c { agents = came_at now c.me.name (without_agent name c.agents) })
-ghosted name now (Forwarding plan) = Forwarding plan
+abbrev pub resettled_who : Name → Option Node → Who → Who
+resettled_who name now (Configuring x) = Configuring x
+resettled_who name now (Controlling c) = Controlling (record c { agents = came_at now c.me.name (without_agent name c.agents) })
+resettled_who name now (Forwarding plan) = Forwarding plan
 
 come_who : (k : Node) (name : Name) (who : Who) (v : Seat) → v.who ≡ retired_of name who
-    → (cond (is_listed_who k (retired_of name who)) (joined_by (retired_of name who) (id_of k) v) v).who ≡ ghosted name (Some k) who
+    → (cond (is_listed_who k (retired_of name who)) (joined_by (retired_of name who) (id_of k) v) v).who ≡ resettled_who name (Some k) who
 come_who k name (Configuring x) v is = is
 come_who k name (Controlling c) v is =
     elim (is_listed c.me.name k) as (λ b.
@@ -228,18 +226,18 @@ come_who k name (Controlling c) v is =
     ]
 come_who k name (Forwarding plan) v is = is
 
-gone_who : (name : Name) (who : Who) → retired_of name who ≡ ghosted name None who
+gone_who : (name : Name) (who : Who) → retired_of name who ≡ resettled_who name None who
 gone_who name (Configuring x) = refl
 gone_who name (Controlling c) = refl
 gone_who name (Forwarding plan) = refl
 
-pub ghost_who : (name : Name) (now : Option Node) (n : Seat) → (ghost name now n).who ≡ ghosted name now n.who
-ghost_who name None n = gone_who name n.who
-ghost_who name (Some k) n = come_who k name n.who (vacated name n) refl
+pub who_resettled : (name : Name) (now : Option Node) (n : Seat) → (resettled_seat name now n).who ≡ resettled_who name now n.who
+who_resettled name None n = gone_who name n.who
+who_resettled name (Some k) n = come_who k name n.who (vacated name n) refl
 
-ghosts_who : (name : Name) (now : Option Node) (seats : List Seat) → map who_of (map (ghost name now) seats) ≡ map (ghosted name now) (map who_of seats)
-ghosts_who name now [] = refl
-ghosts_who name now (n ∷ seats) = λ i. ghost_who name now n i ∷ ghosts_who name now seats i
+pub resettled_whos : (name : Name) (now : Option Node) (seats : List Seat) → map who_of (map (resettled_seat name now) seats) ≡ map (resettled_who name now) (map who_of seats)
+resettled_whos name now [] = refl
+resettled_whos name now (n ∷ seats) = λ i. who_resettled name now n i ∷ resettled_whos name now seats i
 
 maps_alike : {A : Type 0} (f g : A → Who) (xs : List A) → ((a : A) → Member a xs → f a ≡ g a) → map f xs ≡ map g xs
 maps_alike f g [] h = refl
@@ -260,7 +258,7 @@ module _ (x y : Setup) (name : Name) (now : Option Node) (asn : y.topology.asn �
   new_who None = refl
   new_who (Some n) = ap (λ ds. agent_in ds n ∷ []) controllers
 
-  control_who : (c : NodeId) → Member c cs → ghosted name now (Controlling (control_plan x c)) ≡ Controlling (control_plan y c)
+  control_who : (c : NodeId) → Member c cs → resettled_who name now (Controlling (control_plan x c)) ≡ Controlling (control_plan y c)
   control_who c m =
       λ i. Controlling (record {
         me = c;
@@ -282,19 +280,19 @@ module _ (x y : Setup) (name : Name) (now : Option Node) (asn : y.topology.asn �
       (rewho_agents name cs (news now) x.topology.nodes ∙ ap (map (agent_in cs)) (sym nodes)))
 
   pub moved_who : (seats : List Seat) → map who_of seats ≡ whos x
-      → map who_of (ghosts (checked y) name now (reseated name (seats_of y.topology now) seats)) ≡ whos y
+      → map who_of (resettled_seats (checked y) name now (reseated name (seats_of y.topology now) seats)) ≡ whos y
   moved_who seats are =
       let new : List Seat = seats_of y.topology now in
       let r : List Seat = reseated name new seats in
       let C : NodeId → Who = λ c. Controlling (control_plan x c) in
       let us : List Who = map C cs ++ map (agent_in cs) y.topology.nodes in
       let seated : map who_of r ≡ Configuring (checked x) ∷ us = seated_who seats are in
-      let come : map (ghosted name now) us ≡ map (λ c. Controlling (control_plan y c)) y.topology.controllers ++ map (agent_in y.topology.controllers) y.topology.nodes =
-      map-append (ghosted name now) (map C cs) (map (agent_in cs) y.topology.nodes)
-      ∙ (λ i. (map_map (ghosted name now) C cs ∙ maps_alike (λ c. ghosted name now (C c)) (λ c. Controlling (control_plan y c)) cs control_who
+      let come : map (resettled_who name now) us ≡ map (λ c. Controlling (control_plan y c)) y.topology.controllers ++ map (agent_in y.topology.controllers) y.topology.nodes =
+      map-append (resettled_who name now) (map C cs) (map (agent_in cs) y.topology.nodes)
+      ∙ (λ i. (map_map (resettled_who name now) C cs ∙ maps_alike (λ c. resettled_who name now (C c)) (λ c. Controlling (control_plan y c)) cs control_who
       ∙ ap (map (λ c. Controlling (control_plan y c))) (sym controllers)) i
-      ++ (map_map (ghosted name now) (agent_in cs) y.topology.nodes ∙ ap (λ ds. map (agent_in ds) y.topology.nodes) (sym controllers)) i)
+      ++ (map_map (resettled_who name now) (agent_in cs) y.topology.nodes ∙ ap (λ ds. map (agent_in ds) y.topology.nodes) (sym controllers)) i)
       in
-      map-set who_of (map (ghost name now) r) 0 (record (seat (map (ghost name now) r) 0) { who = Configuring (checked y) })
-      ∙ ap (λ (vs : List Who). slice_set vs 0 (Configuring (checked y))) (ghosts_who name now r ∙ ap (map (ghosted name now)) seated)
+      map-set who_of (map (resettled_seat name now) r) 0 (record (seat (map (resettled_seat name now) r) 0) { who = Configuring (checked y) })
+      ∙ ap (λ (vs : List Who). slice_set vs 0 (Configuring (checked y))) (resettled_whos name now r ∙ ap (map (resettled_who name now)) seated)
       ∙ ap (λ (vs : List Who). Configuring (checked y) ∷ vs) come

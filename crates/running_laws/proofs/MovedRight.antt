@@ -1,5 +1,5 @@
 -- A compute node moves: what holds of the network whose sessions are replaced, and of it after passes.
-use Rattle.std.specs.Prelude.{◌≡◌, List, [], ◌∷◌, map, true}
+use Rattle.std.specs.Prelude.{◌≡◌, map, true}
 use Rattle.std.specs.declared.option.Option.{Option}
 use Rattle.std.specs.declared.option.Option.TheVariants.{Some, None}
 use Rattle.std.proofs.Common.{refl, sym, ◌∙◌, ap, subst, inr}
@@ -23,7 +23,7 @@ use Rattle.running_laws.specs.Moments.{IsMoment}
 use Rattle.running_laws.specs.Wiring.{HasNumbers}
 use Rattle.running_laws.proofs.AtMoments.{IsSound, all_quiet, moment_sound}
 use Rattle.running_laws.proofs.Facts.{Facts, IsRight}
-use Rattle.running_laws.proofs.Ghost.{resettled, setup_after}
+use Rattle.running_laws.proofs.Resettled.{resettled, setup_after}
 
 -- ---- sessions are sound
 -- new ones have nothing
@@ -45,10 +45,6 @@ pass_sound n v sound =
     nodes_keep (Fact message_size) (Fact-turned message_size) told
     (λ s f. passed_keeps message_size positive (wanted v.setup (views_of n v.sessions) (view s)) s f) n v.sessions sound
 
-pub passes_sound : (ns : List Name) (v : MachineState) → IsSound v → IsSound (passes ns v)
-passes_sound [] v sound = sound
-passes_sound (n ∷ ns) v sound = passes_sound ns (pass n v) (pass_sound n v sound)
-
 -- ---- what passes keep
 pub pass_right : (n : Name) (v : MachineState) → IsSound v → IsRight v → IsRight (pass n v)
 pass_right n v sound r = record {
@@ -57,10 +53,6 @@ pass_right n v sound r = record {
   sessions = pass_nodes n v ∙ r.sessions;
   quiet = all_quiet (pass n v) (pass_sound n v sound);
 }
-
-pub passes_right : (ns : List Name) (v : MachineState) → IsSound v → IsRight v → IsRight (passes ns v)
-passes_right [] v sound r = r
-passes_right (n ∷ ns) v sound r = passes_right ns (pass n v) (pass_sound n v sound) (pass_right n v sound r)
 
 -- ---- at a moment
 module _ (facts : Facts) (w : MachineState) (moment : IsMoment w) (e : Edit) (form : EditIsValid IsOfForm w (Edits e))
@@ -94,10 +86,3 @@ module _ (facts : Facts) (w : MachineState) (moment : IsMoment w) (e : Edit) (fo
         ∙ ap (λ (x : Setup). map nodes (asked x.topology)) same_setup;
     quiet = all_quiet (resettled m y w) sound_resettled;
   }
-
-  -- and so after passes of control nodes
-  pub sound_passes : (cs : List Name) → IsSound (passes cs (resettled m y w))
-  sound_passes cs = passes_sound cs (resettled m y w) sound_resettled
-
-  pub right_passes : (cs : List Name) → IsRight (passes cs (resettled m y w))
-  right_passes cs = passes_right cs (resettled m y w) sound_resettled right_resettled

@@ -23,7 +23,7 @@ use Rattle.running_model.specs.Moving.{is_listed_who, joined_at, joined_by, numb
 use Rattle.running_model.specs.Steps.{all_of, fresh_seat}
 use Rattle.running_model.specs.Stands.{IsLong, IsVacant}
 use Rattle.running_laws.proofs.Building.{SameEnd, end_trans, vacant_same}
-use Rattle.running_laws.proofs.Ghost.{ghost}
+use Rattle.running_laws.proofs.Resettled.{resettled_seat}
 use Rattle.running_laws.proofs.FirstPlaces.{index_found}
 
 -- ---- lists with an item stored
@@ -311,11 +311,11 @@ module _ (name : Name) where
   come_fades k named n v (Controlling c) is f true = joined_fades (id_of k) named c n v is f
   come_fades k named n v (Forwarding plan) is f true = f
 
-  pub ghost_fades : (now : Option Node) → ((k : Node) → now ≡ Some k → k.name ≡ name) → (n : Seat) → IsLong n
+  pub resettled_fades : (now : Option Node) → ((k : Node) → now ≡ Some k → k.name ≡ name) → (n : Seat) → IsLong n
       → ((i : ℕ) → other n i ≡ None → IsVacant n i)
-      → ((i : ℕ) → other n i ≡ Some name → session_with n name ≡ Some i) → Fades n (ghost name now n)
-  ghost_fades None named n long vacant sole = vacated_fades n long vacant sole
-  ghost_fades (Some k) named n long vacant sole =
+      → ((i : ℕ) → other n i ≡ Some name → session_with n name ≡ Some i) → Fades n (resettled_seat name now n)
+  resettled_fades None named n long vacant sole = vacated_fades n long vacant sole
+  resettled_fades (Some k) named n long vacant sole =
       come_fades k (named k refl) n (vacated name n) (vacated name n).who refl (vacated_fades n long vacant sole)
       (is_listed_who k (vacated name n).who)
 
@@ -346,10 +346,10 @@ module _ (name : Name) where
   abbrev fresh_agent : Topology → Node → Seat
   fresh_agent t k = fresh_seat (Forwarding (agent_plan t k))
 
-  pub fresh_vacant : (t : Topology) (k : Node) (now : Option Node) (i : ℕ) → IsVacant (ghost name now (fresh_agent t k)) i
+  pub fresh_vacant : (t : Topology) (k : Node) (now : Option Node) (i : ℕ) → IsVacant (resettled_seat name now (fresh_agent t k)) i
   fresh_vacant t k None i = gone_vacant (fresh_agent t k) (session_with (fresh_agent t k) name) i (fresh_nothing (Forwarding (agent_plan t k)) i)
   fresh_vacant t k (Some l) i = gone_vacant (fresh_agent t k) (session_with (fresh_agent t k) name) i (fresh_nothing (Forwarding (agent_plan t k)) i)
 
-  pub fresh_long : (t : Topology) (k : Node) (now : Option Node) → IsLong (ghost name now (fresh_agent t k))
+  pub fresh_long : (t : Topology) (k : Node) (now : Option Node) → IsLong (resettled_seat name now (fresh_agent t k))
   fresh_long t k None = gone_long (fresh_agent t k) (session_with (fresh_agent t k) name) (fresh_room (Forwarding (agent_plan t k)))
   fresh_long t k (Some l) = gone_long (fresh_agent t k) (session_with (fresh_agent t k) name) (fresh_room (Forwarding (agent_plan t k)))

@@ -12,7 +12,7 @@ use Rattle.ov_types.specs.First.{same_name}
 use Rattle.node_model.specs.Maps.{Change, Map, difference}
 use Rattle.node_model.specs.Step.{NodeKind, Post, changes, nothing, post, told_all}
 use Rattle.machine_laws.specs.MachineModel.Setup.{Name}
-use Rattle.machine_laws.specs.MachineModel.Session.{Carries, Message, Session, is_idle, is_live, is_peering, may_send, passed, told, turned}
+use Rattle.machine_laws.specs.MachineModel.Session.{Carries, Message, Session, is_idle, is_live, is_peering, may_send, passed, turned}
 use Rattle.machine_laws.specs.MachineModel.Network.{MachineState, view, views_of, wanted}
 use Rattle.machine_laws.specs.MachineModel.Steps.{pass, session_of}
 use Rattle.machine_laws.specs.MachineModel.Moments.{nodes}

@@ -1,7 +1,7 @@
 -- The roles of names, by the control nodes, which no edit changes: new sessions have them too.
 use Rattle.std.specs.Prelude.{◌≡◌, Bool, List, [], ◌∷◌, ◌++◌, map, cond, true, false}
 use Rattle.std.specs.List.{AllByRecursion, filter, list_any}
-use Rattle.std.proofs.Common.{ap, inl, inr, refl, subst, sym, ◌∙◌}
+use Rattle.std.proofs.Common.{ap, inl, inr, refl, sym, ◌∙◌}
 use Rattle.ov_types.specs.First.{same_name}
 use Rattle.ov_types.specs.declared.rows.NodeId.{NodeId}
 use Rattle.schedule_script.specs.ConfigCheck.Rules.{controller_names, node_names}
@@ -10,7 +10,7 @@ use Rattle.config_types.specs.declared.topology.Topology.{Topology}
 use Rattle.node_model.specs.Members.{Member}
 use Rattle.node_model.proofs.Members.{any_in, from_any, from_filter, in_map}
 use Rattle.machine_laws.specs.MachineModel.Moments.{IsLaidOut, NodePair, nodes}
-use Rattle.machine_laws.specs.MachineModel.Network.{accesses, accesses_of, asked, between, config, feeds, peerings}
+use Rattle.machine_laws.specs.MachineModel.Network.{accesses, asked, between, config, feeds, peerings}
 use Rattle.machine_laws.specs.MachineModel.Session.{Agent, Configuration, Controller, Role, Session}
 use Rattle.machine_laws.specs.MachineModel.Setup.{Name, lists}
 use Rattle.machine_laws.proofs.MachineModel.Apart.{NamesApart, apart_of, names_apart, same_false}

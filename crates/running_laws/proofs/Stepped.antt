@@ -11,7 +11,7 @@ use Rattle.node_core.specs.Keeping.{AreSwept}
 use Rattle.node_model.specs.Step.{Beginning, NodeKind, Post, changes, end_of, nothing, post, told_all}
 use Rattle.node_model.specs.Maps.{difference}
 use Rattle.machine_laws.specs.MachineModel.Setup.{Name}
-use Rattle.machine_laws.specs.MachineModel.Session.{Message, Session, is_idle, is_peering, may_send, shut, told, turned, with_breaks}
+use Rattle.machine_laws.specs.MachineModel.Session.{Message, Session, is_idle, is_peering, shut, told, turned, with_breaks}
 use Rattle.machine_laws.specs.MachineModel.Network.{MachineState}
 use Rattle.machine_laws.specs.MachineModel.Steps.{change_session, pass, session_of}
 use Rattle.machine_laws.specs.MachineModel.Moments.{Each}

@@ -1,7 +1,7 @@
 -- With a valid configuration each node wants what is fit to be told, where all that its sessions hold is.
 use Rattle.std.specs.FinMap.{get}
 use Rattle.std.specs.List.{AllByRecursion, enumerate_from, filter_map, list_all}
-use Rattle.std.specs.Prelude.{IsTrue, List, cond, false, length, map, nat_le, not, true, ℕ, [], ◌&&◌, ◌+◌, ◌<◌, ◌^◌, ◌∷◌, ◌≡◌, ◌≤◌}
+use Rattle.std.specs.Prelude.{IsTrue, List, cond, false, length, nat_le, not, true, ℕ, [], ◌&&◌, ◌+◌, ◌<◌, ◌^◌, ◌∷◌, ◌≡◌, ◌≤◌}
 use Rattle.std.specs.declared.option.Option.TheVariants.{None, Some}
 use Rattle.std.specs.declared.option.Option.{Option}
 use Rattle.std.specs.Cmp.Lexicographic.{bytes_decides}

@@ -74,12 +74,6 @@ module _ (w : MachineState) (written : IsWritten w.setup) (numbers : HasNumbers 
   pub session_without_place : (a b : Name) → place_of seats a b ≡ None → session_of w a b ≡ None
   session_without_place a b e = sessions.no_session w named numbers apart seats are has a b e
 
-  pub place_of_session : (a b : Name) (s : Session) → session_of w a b ≡ Some s → (p : SessionPlace) × (place_of seats a b ≡ Some p)
-  place_of_session a b s e = sessions.place_where w named numbers apart seats are has a b s e
-
-  pub session_of_place : (a b : Name) (p : SessionPlace) → place_of seats a b ≡ Some p → (s : Session) × (session_of w a b ≡ Some s)
-  session_of_place a b p e = sessions.session_where w named numbers apart seats are has a b p e
-
   pub names_differ : Each (λ s. (same_name s.near.name s.far.name ≡ false) × (same_name s.far.name s.near.name ≡ false)) w.sessions
   names_differ = sessions.sessions_proper w named numbers apart seats are has
 

@@ -8,7 +8,6 @@ use Rattle.ov_types.specs.declared.rows.NodeId.{NodeId}
 use Rattle.config_types.specs.declared.topology.Node.{Node}
 use Rattle.config_types.specs.declared.topology.Topology.{Topology}
 use Rattle.control_node.specs.Agents.{put_at}
-use Rattle.agent_node.specs.NodeCore.Keeping.{AreSwept}
 use Rattle.agent_node.specs.NodeModel.Step.{nothing}
 use Rattle.config_node.specs.MachineModel.Setup.{Move, Name, id_of, is_listed, with_agent, without_agent}
 use Rattle.config_node.specs.MachineModel.Session.{Role, Agent}
@@ -16,7 +15,7 @@ use Rattle.config_node.specs.MachineModel.Network.{same_role}
 use Rattle.running_model.specs.Controls.{Controls, first_agent}
 use Rattle.running_model.specs.Seats.{Who, Configuring, Controlling, Forwarding, Seat, agent_plan, name_of, role_of, seat}
 use Rattle.running_model.specs.Seats.{seat_named, session_with}
-use Rattle.running_model.specs.Steps.{IsStepped, as_it_is, cleared, fresh_seat, with_seat}
+use Rattle.running_model.specs.Steps.{Passes, cleared, fresh_seat, with_seat}
 
 -- ---- an agent goes from a control node
 -- there is nothing at an end any more
@@ -41,22 +40,15 @@ retired_of name who = who
 abbrev pub vacated : Name → Seat → Seat
 vacated name n = record (vacated_from (session_with n name) n) { who = retired_of name n.who }
 
--- the session with the agent is taken away, and then all others are told what is wanted without it
-pub record Leaves (name : Name) (n n' : Seat) : Type 0 where
-  pub stepped : IsStepped (vacated name n) n' 0 (as_it_is (vacated name n))
-  pub swept : AreSwept n'.posts (vacated name n).kept n'.kept
+-- it goes from the control node of a seat, which tells nobody yet
+abbrev pub left_at : Name → Option ℕ → List Seat → List Seat
+left_at name None seats = seats
+left_at name (Some k) seats = with_seat k (vacated name (seat seats k)) seats
 
--- it goes from the control node of this name, and then the sessions go down of which that closed its end
-abbrev pub LeavesAt : Name → Option ℕ → List Seat → List Seat → Type 0
-LeavesAt name None seats after = after ≡ seats
-LeavesAt name (Some k) seats after =
-    (node : Seat) × Leaves name (seat seats k) node × (after ≡ cleared (with_seat k node seats) k)
-
--- it goes from all that it listed, in their order
-abbrev pub LeavesAll : Name → List Name → List Seat → List Seat → Type 0
-LeavesAll name [] seats after = after ≡ seats
-LeavesAll name (c ∷ cs) seats after =
-    (between : List Seat) × LeavesAt name (seat_named seats c) seats between × LeavesAll name cs between after
+-- it goes from all these control nodes
+abbrev pub left_all : Name → List Name → List Seat → List Seat
+left_all name [] seats = seats
+left_all name (c ∷ cs) seats = left_all name cs (left_at name (seat_named seats c) seats)
 
 -- ---- its own seat
 -- the agent of this name
@@ -101,7 +93,6 @@ joined_by who a n = n
 abbrev pub joined : NodeId → Seat → Seat
 joined a n = joined_by n.who a n
 
--- ---- all of it
 -- a control node that the compute node lists
 abbrev pub is_listed_who : Node → Who → Bool
 is_listed_who n (Controlling c) = is_listed c.me.name n
@@ -111,12 +102,27 @@ abbrev pub came : Option Node → List Seat → List Seat
 came None seats = seats
 came (Some n) seats = map (λ (s : Seat). if is_listed_who n s.who then joined (id_of n) s else s) seats
 
--- in a topology: its seat is another, then it goes from the control nodes that it listed, and then it comes to those that
--- it lists
-pub record Moves (t : Topology) (m : Move) (seats after : List Seat) : Type 0 where
-  pub left : List Seat
-  pub leaves : LeavesAll m.name m.left (reseated m.name (seats_of t m.now) seats) left
-  pub comes : after ≡ came m.now left
+-- ---- passes
+-- the node of a seat makes its pass, and then the sessions go down of which it closed its end
+abbrev pub PassesAt : Option ℕ → List Seat → List Seat → Type 0
+PassesAt None seats after = after ≡ seats
+PassesAt (Some k) seats after =
+    (node : Seat) × Passes (seat seats k) node × (after ≡ cleared (with_seat k node seats) k)
+
+-- these nodes make their passes, in their order
+abbrev pub PassesAll : List Name → List Seat → List Seat → Type 0
+PassesAll [] seats after = after ≡ seats
+PassesAll (c ∷ cs) seats after =
+    (between : List Seat) × PassesAt (seat_named seats c) seats between × PassesAll cs between after
+
+-- ---- all of it
+-- in a topology: its seat is another, it goes from the control nodes that it listed, and it comes to those that it lists
+abbrev pub before_passes : Topology → Move → List Seat → List Seat
+before_passes t m seats = came m.now (left_all m.name m.left (reseated m.name (seats_of t m.now) seats))
+
+-- then the control nodes that it listed make their passes
+abbrev pub Moves : Topology → Move → List Seat → List Seat → Type 0
+Moves t m seats after = PassesAll m.left (before_passes t m seats) after
 
 abbrev pub MovesIf : Topology → Option Move → List Seat → List Seat → Type 0
 MovesIf t None seats after = after ≡ seats

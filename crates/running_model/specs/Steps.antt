@@ -93,6 +93,11 @@ pub record Takes (n n' : Seat) (input : Input) : Type 0 where
 abbrev pub as_it_is : Seat → Beginning
 as_it_is n = record { replies = []; after = Some (post n.posts 0) }
 
+-- a node makes its pass: each session is told what is wanted now
+pub record Passes (n n' : Seat) : Type 0 where
+  pub stepped : IsStepped n n' 0 (as_it_is n)
+  pub swept : AreSwept n'.posts n.kept n'.kept
+
 -- ---- changes of single places
 abbrev pub all_of : {A B : Type 0} → B → List A → List B
 all_of b xs = map (λ _. b) xs

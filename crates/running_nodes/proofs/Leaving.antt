@@ -1,66 +1,26 @@
 -- An agent that goes from a control node: what the node makes of it is what its seat makes of it.
-use Rattle.std.proofs.Common.{◌≡◌, ◌≢◌, ◌<◌, ◌≤◌, ◌+◌, ◌-◌, ◌==◌, ◌⊎◌, ◌||◌, ℕ, zero, suc, Bool, true, false, if◌then◌else◌, nat_lt, Option, Some, None, List, [], ◌∷◌, ◌++◌, length, map, get_or, set, sym, ◌∙◌, ap, refl, subst, arith, eq-eqb, ne_eqb, le-ltb}
+use Rattle.std.proofs.Common.{◌≡◌, ◌≢◌, ◌<◌, ◌≤◌, ◌+◌, ◌-◌, ◌==◌, ◌⊎◌, ◌||◌, ℕ, zero, suc, Bool, true, false, if◌then◌else◌, Option, Some, None, List, [], ◌∷◌, ◌++◌, length, map, get_or, set, sym, ◌∙◌, ap, refl, subst, arith, eq-eqb, ne_eqb}
 use Rattle.std.proofs.Common.{inl, inr}
-use Rattle.std.proofs.lemmas.List.{get_or-append-add, get_or-set_other, get_or-set_same, length-set, set-get_or}
-use Rattle.ov_link.specs.FailingState.{FailingState}
+use Rattle.std.proofs.lemmas.List.{get_or-append-add, get_or-set_other, get_or-set_same}
 use Rattle.ov_types.specs.First.{same_name}
 use Rattle.ov_types.proofs.FirstLemmas.{same_name_iff, same_name_self}
 use Rattle.ov_types.specs.declared.rows.NodeId.{NodeId}
-use Rattle.node_core.specs.Keeping.{AreSwept}
-use Rattle.node_model.specs.Step.{NodeKind, Post, begun, changes, nothing, post, replies, told_all}
-use Rattle.running_model.specs.ConfigNode.Setting.{as_it_is}
-use Rattle.running_model.specs.ControlNode.Agents.{AreRetired, closing, is_retired, retiring}
+use Rattle.node_model.specs.Step.{Post, nothing, post}
+use Rattle.running_model.specs.ControlNode.Agents.{departed, is_retired, retiring}
 use Rattle.running_model.specs.ControlNode.Core as control
-use Rattle.running_model.specs.ControlNode.Wanting as wanting
 use Rattle.running_model.specs.ControlNode.ControlPlan.{ControlPlan}
 use Rattle.running_model.proofs.ControlNodeBelow.Retired.{one_more}
 use Rattle.running_model.specs.MachineModel.Setup.{Name, has_name, without_agent}
-use Rattle.running_model.specs.Controls as controls
 use Rattle.running_model.specs.Controls.{Controls, agents_at, controls_of}
 use Rattle.running_model.specs.Moving.{retired_of, vacated, vacated_from}
 use Rattle.running_model.specs.Seats.{Controlling, Seat, Who, index_from, is_name, name_there, names_of, others_of, session_with}
-use Rattle.running_nodes.specs.Changes.{IsAlone, LeavesOver, emptied_at, vacated_inner}
+use Rattle.running_nodes.specs.Changes.{IsAlone, emptied_at, vacated_inner}
 use Rattle.running_nodes.specs.Cores.{IsVacated, controlled}
 use Rattle.running_nodes.specs.Halves.{Inner, Outer, whole}
-use Rattle.running_nodes.proofs.Failing.{failing_steps}
-use Rattle.running_nodes.proofs.Vacant.{TakenBy, first_stays, node_steps, none_after, peers_named, steps_alike, there, those}
+use Rattle.running_nodes.proofs.Vacant.{peers_named, there, those}
 
 alike : (m n : ℕ) → (m ≡ n) ⊎ (m ≢ n)
 alike m n = search arith
-
--- ---- an end is closed, and then all are told
-abbrev none_sent : List (List ℕ)
-none_sent = []
-
-no_replies : (b : Bool) → (if b then none_sent else none_sent) ≡ none_sent
-no_replies true = refl
-no_replies false = refl
-
-module _ (k : NodeKind) (posts posts' : List Post) (session : ℕ) (links links' : List FailingState) (lowest : Option ℕ) where
-  abbrev left : List Post
-  left = set posts session nothing
-
-  closed_begun : (fails : Bool) → begun posts session closing fails ≡ left
-  closed_begun true = refl
-  closed_begun false = refl
-
-  begun_itself : begun left 0 (as_it_is left) false ≡ left
-  begun_itself = set-get_or left 0 nothing
-
-  silent : (i : ℕ) → replies session closing i ≡ []
-  silent i = no_replies (i == session)
-
-  silent_too : (i : ℕ) → replies 0 (as_it_is left) i ≡ []
-  silent_too i = no_replies (i == 0)
-
-  pub closed_steps : TakenBy k posts posts' session closing links links' lowest
-      → TakenBy k left posts' 0 (as_it_is left) links links' lowest
-  closed_steps s =
-      steps_alike k k posts left posts' session 0 closing (as_it_is left) links links' lowest (length-set posts session nothing) (λ _. false)
-      (λ fails i. (λ j. silent i j ++ changes k (closed_begun fails j) i) ∙ (λ j. sym (silent_too i) j ++ changes k (sym begun_itself j) i))
-      (λ fails i. (λ j. told_all k (closed_begun fails j) i) ∙ (λ j. told_all k (sym begun_itself j) i))
-      (λ fails i count h same. sym (ap (λ (r : List (List ℕ)). nat_lt count (length r)) (silent_too i) ∙ le-ltb count 0 (omega arith)))
-      s
 
 -- ---- who is at the other ends then
 abbrev without_name : Name → Option NodeId → Option NodeId
@@ -164,11 +124,6 @@ module _ (plan : ControlPlan) (session : ℕ) (name : Name)
   pub controls_left : controls_of (retiring plan session) ≡ record (controls_of plan) { agents = without_agent name (agents_at plan) }
   controls_left = λ i. record { me = plan.me; asn = plan.asn; peers = plan.peers; agents = agents_left i }
 
-  first_kept : AreRetired plan → is_retired (retiring plan session) 0 ≡ false
-  first_kept are =
-      let apart : 0 ≢ session = λ e. absurd (omega (arith, e, above)) in
-      one 0 ∙ (ap (λ (x : Bool). x || is_retired plan 0) (ne_eqb 0 session apart) ∙ first_stays plan are)
-
   none_left : (posts : List Post) → session < length posts → ((i : ℕ) → is_retired plan i ≡ true → post posts i ≡ nothing)
       → (i : ℕ) → is_retired (retiring plan session) i ≡ true → post (set posts session nothing) i ≡ nothing
   none_left posts lt none i gone = elim (alike i session) [
@@ -191,45 +146,18 @@ within_others c session name is = within (others_of (controlled c).who) session 
     within (x ∷ xs) zero at = omega arith
     within (x ∷ xs) (suc i) at = (let rest = within xs i at in omega (arith, rest))
 
--- what is left of the control node
-pub record HasLeft (name : Name) (session : ℕ) (links links' : List FailingState) (c c' : control.Core) : Type 0 where
-  pub who : (controlled c').who ≡ retired_of name (controlled c).who
-  pub leaves : LeavesOver name session links links' (controlled c) (controlled c')
-  pub vacated : IsVacated c'
-  pub long : length c'.posts ≡ length c.posts
-  pub kept : length c'.kept ≡ length c.kept
+-- the control node without the agent
+pub departed_seen : (c : control.Core) (session : ℕ) (name : Name) → IsAlone name session (controlled c)
+    → controlled (departed c session) ≡ vacated_inner name session (controlled c)
+departed_seen c session name is =
+    let now = controls_left c.plan session name (above_of c session name is) is.there is.alone in
+    λ i. record { who = Controlling (now i); posts = set c.posts session nothing; kept = set c.kept session [] }
 
-pub has_left : (c c' : control.Core) (session : ℕ) (name : Name) (links links' : List FailingState) (lowest : Option ℕ)
-    → AreRetired c.plan → IsVacated c → IsAlone name session (controlled c) → session < length c.posts → length links' ≡ length links
-    → c'.plan ≡ retiring c.plan session
-    → TakenBy (wanting.kind c.plan) c.posts c'.posts session closing links links' lowest
-    → AreSwept c'.posts (set c.kept session []) c'.kept
-    → HasLeft name session links links' c c'
-has_left c c' session name links links' lowest are vacant is lt long plan steps swept =
-    let before = set c.posts session nothing in
-    let above = above_of c session name is in
-    let gone = none_left c.plan session name above is.there is.alone c.posts lt vacant.none in
-    let stays = first_kept c.plan session name above is.there is.alone are in
-    let then_told = closed_steps (wanting.kind c.plan) c.posts c'.posts session links links' lowest steps in
-    let node_told = node_steps (retiring c.plan session) before c'.posts gone 0 stays (as_it_is before) links links' lowest then_told in
-    let now = controls_left c.plan session name above is.there is.alone in
-    let who : (controlled c').who ≡ retired_of name (controlled c).who =
-    ap (λ (p : ControlPlan). Controlling (controls_of p)) plan ∙ ap Controlling now in
-    let some : 0 < length before = (let kept = length-set c.posts session nothing in omega (arith, kept, lt)) in
-    record {
-      who = who;
-      leaves = (
-        λ notices. failing_steps (vacated_inner name session (controlled c)) (controlled c') 0 (as_it_is before) links links' lowest who some long
-            (subst (λ (d : Controls). TakenBy (controls.kind d) before c'.posts 0 (as_it_is before) links links' lowest) now node_told) notices,
-        swept,
-      );
-      vacated = record {
-        none = λ i retired. none_after (retiring c.plan session) before c'.posts gone 0 stays (as_it_is before) links links' lowest then_told i
-            (ap (λ (p : ControlPlan). is_retired p i) (sym plan) ∙ retired);
-      };
-      long = steps.long;
-      kept = swept.long ∙ length-set c.kept session [];
-    }
+pub departed_vacated : (c : control.Core) (session : ℕ) (name : Name) → IsAlone name session (controlled c) → session < length c.posts
+    → IsVacated c → IsVacated (departed c session)
+departed_vacated c session name is lt vacant = record {
+  none = none_left c.plan session name (above_of c session name is) is.there is.alone c.posts lt vacant.none;
+}
 
 -- ---- the session of a name
 first_named : (name : Name) (xs : List (Option Name)) (k i : ℕ) → get_or xs i None ≡ Some name

@@ -1,46 +1,18 @@
 -- The halves of a control node's seat, where an agent left it or came to it.
-use Rattle.std.proofs.Common.{◌≡◌, ◌<◌, ◌≤◌, ◌^◌, Bool, ℕ, zero, suc, Option, Some, None, Result, Ok, Err, IfOk, OnOk, OnErr, List, [], ◌∷◌, ◌++◌, length, set, false, sym, ◌∙◌, ap, refl, subst, arith}
+use Rattle.std.proofs.Common.{◌≡◌, ◌<◌, ◌≤◌, ℕ, zero, suc, Option, Some, None, List, [], ◌∷◌, ◌++◌, length, set, false, sym, ◌∙◌, ap, refl, subst, arith}
 use Rattle.std.proofs.lemmas.List.{length-set}
-use Rattle.ov_link.specs.FailingState.{FailingState}
 use Rattle.ov_types.specs.declared.rows.NodeId.{NodeId}
-use Rattle.node_core.specs.Keeping.{AreSwept}
 use Rattle.node_model.specs.Step.{Post, nothing}
 use Rattle.running_model.specs.ControlNode.Agents.{put_at}
 use Rattle.running_model.proofs.ControlNodeBelow.Placed.{put_alike, put_behind, put_there}
 use Rattle.running_model.specs.MachineModel.Setup.{Name}
 use Rattle.running_model.specs.Controls.{Controls}
-use Rattle.running_model.specs.Moving.{Leaves, joined, number_for, retired_of, vacated}
-use Rattle.running_model.specs.Seats.{Who, Configuring, Controlling, Forwarding, Seat, name_of, others_of}
-use Rattle.running_model.specs.Steps.{IsStepped, as_it_is}
-use Rattle.running_nodes.specs.Changes.{IsAlone, LeavesFrom, LeavesOver, emptied_at, joined_inner, joined_outer, longer_outer, vacated_inner}
-use Rattle.running_nodes.specs.Halves.{AreHalves, Inner, IsEven, Outer, over, whole}
+use Rattle.running_model.specs.Moving.{joined, number_for, retired_of, vacated}
+use Rattle.running_model.specs.Seats.{Who, Configuring, Controlling, Forwarding, name_of, others_of}
+use Rattle.running_nodes.specs.Changes.{IsAlone, emptied_at, joined_inner, joined_outer, longer_outer, vacated_inner}
+use Rattle.running_nodes.specs.Halves.{AreHalves, Inner, IsEven, Outer, whole}
 use Rattle.running_nodes.proofs.Joining.{others_joined}
 use Rattle.running_nodes.proofs.Leaving.{others_left, vacated_is}
-use Rattle.running_nodes.proofs.Links.{edge_of}
-
--- ---- with the same sessions
-pub still_halves : (n n' : Inner) (o o' : Outer) → AreHalves n o → n'.who ≡ n.who → o'.name ≡ o.name → o'.others ≡ o.others
-    → length n'.posts ≡ length n.posts → length n'.kept ≡ length n.kept → IsEven o' → AreHalves n' o'
-still_halves n n' o o' h who name others posts kept even = record {
-  name = name ∙ (h.name ∙ ap name_of (sym who));
-  others = others ∙ (h.others ∙ ap others_of (sym who));
-  posts = posts ∙ (h.posts ∙ ap (λ (w : Who). length (others_of w)) (sym who));
-  kept = kept ∙ (h.kept ∙ ap (λ (w : Who). length (others_of w)) (sym who));
-  even = even;
-}
-
-pub emptied_even : (o : Outer) (i : ℕ) → IsEven o → IsEven (emptied_at i o)
-emptied_even o i even = record {
-  links = length-set o.links i [] ∙ even.links;
-  breaks = length-set o.breaks i [] ∙ even.breaks;
-  notices = length-set o.notices i false ∙ even.notices;
-  few = even.few;
-}
-
-pub emptied_halves : (n : Inner) (o e : Outer) (i : ℕ) → AreHalves n o → e ≡ emptied_at i o → AreHalves n e
-emptied_halves n o e i h is =
-    subst (AreHalves n) (sym is)
-    (record { name = h.name; others = h.others; posts = h.posts; kept = h.kept; even = emptied_even o i h.even })
 
 -- ---- an agent left
 name_kept : (name : Name) (w : Who) → name_of (retired_of name w) ≡ name_of w
@@ -48,51 +20,39 @@ name_kept name (Configuring x) = refl
 name_kept name (Controlling c) = refl
 name_kept name (Forwarding plan) = refl
 
-pub left_halves : (name : Name) (i : ℕ) (n n' : Inner) (o o' e : Outer) → AreHalves n o → IsAlone name i n
-    → n'.who ≡ retired_of name n.who → o'.name ≡ o.name → o'.others ≡ o.others → length n'.posts ≡ length n.posts
-    → length n'.kept ≡ length n.kept → IsEven o' → e ≡ record o' { others = set o'.others i None } → AreHalves n' e
-left_halves name i n n' o o' e h is who same_name same_others posts kept even now =
-    let others : set o'.others i None ≡ others_of n'.who =
-    ap (λ (os : List (Option Name)). set os i None) (same_others ∙ h.others) ∙ (sym (others_left name i n is) ∙ ap others_of (sym who)) in
-    let long : length (others_of n.who) ≡ length (others_of n'.who) =
-    ap length (sym (same_others ∙ h.others)) ∙ (sym (length-set o'.others i None) ∙ ap length others) in
-    let few = even.few in
-    let kept_long = length-set o'.others i None in
-    let all : AreHalves n' (record o' { others = set o'.others i None }) =
-    record {
-      name = same_name ∙ (h.name ∙ (sym (name_kept name n.who) ∙ ap name_of (sym who)));
-      others = others;
-      posts = posts ∙ (h.posts ∙ long);
-      kept = kept ∙ (h.kept ∙ long);
-      even = record {
-        links = even.links ∙ sym kept_long;
-        breaks = even.breaks ∙ sym kept_long;
-        notices = even.notices ∙ sym kept_long;
-        few = omega (arith, few, kept_long);
-      };
-    } in
-    subst (AreHalves n') (sym now) all
+module _ (name : Name) (i : ℕ) (n n' : Inner) (o e o' : Outer) (is : IsAlone name i n) (inside : n' ≡ vacated_inner name i n)
+    (empty : e ≡ emptied_at i o) (now : o' ≡ record e { others = set e.others i None }) where
+  abbrev left : Outer
+  left = record (emptied_at i o) { others = set o.others i None }
 
-pub leaves_from : {T E : Type 0} (r : Result T E) (name : Name) (i : ℕ) (n n' : Inner) (own : Name) (others : List (Option Name))
-    (notices : List Bool) (ls ls' : List FailingState) (o : Outer) → edge_of own others notices ls ≡ o
-    → IfOk r (λ _. LeavesOver name i ls ls' n n') → IfOk r (λ _. LeavesFrom name i n o n' (edge_of own others notices ls'))
-leaves_from (Err e) name i n n' own others notices ls ls' o view leaves = tt
-leaves_from (Ok x) name i n n' own others notices ls ls' o view leaves = (
-  subst (λ (p : Outer). IsStepped (whole (vacated_inner name i n) p) (over n' ls' notices) 0 (as_it_is (whole (vacated_inner name i n) p))) view (leaves.0 notices),
-  leaves.1,
-)
+  outside : o' ≡ left
+  outside = now ∙ ap (λ (p : Outer). let q : Outer = record p { others = set p.others i None } in q) empty
 
-pub has_left_whole : (name : Name) (i : ℕ) (n n' : Inner) (o o' before e : Outer) → IsAlone name i n → before ≡ emptied_at i o
-    → LeavesFrom name i n before n' o' → e ≡ record o' { others = set o'.others i None } → Leaves name (whole n o) (whole n' e)
-has_left_whole name i n n' o o' before e is empty leaves now =
-    let gone : whole (vacated_inner name i n) before ≡ vacated name (whole n o) =
-    ap (λ (p : Outer). whole (vacated_inner name i n) p) empty ∙ sym (vacated_is name i n o is) in
-    let all : Leaves name (whole n o) (whole n' o') =
-    record {
-      stepped = subst (λ (v : Seat). IsStepped v (whole n' o') 0 (as_it_is v)) gone leaves.0;
-      swept = subst (λ (v : Seat). AreSwept n'.posts v.kept n'.kept) gone leaves.1;
-    } in
-    subst (λ (p : Outer). Leaves name (whole n o) (whole n' p)) (sym now) all
+  pub left_halves : AreHalves n o → AreHalves n' o'
+  left_halves h =
+      let even = h.even in
+      let long = length-set o.others i None in
+      let others : set o.others i None ≡ others_of (retired_of name n.who) =
+      ap (λ (os : List (Option Name)). set os i None) h.others ∙ sym (others_left name i n is) in
+      let same : length (others_of n.who) ≡ length (others_of (retired_of name n.who)) =
+      ap length (sym h.others) ∙ (sym long ∙ ap length others) in
+      let all : AreHalves (vacated_inner name i n) (record (emptied_at i o) { others = set o.others i None }) =
+      record {
+        name = h.name ∙ sym (name_kept name n.who);
+        others = others;
+        posts = length-set n.posts i nothing ∙ (h.posts ∙ same);
+        kept = length-set n.kept i [] ∙ (h.kept ∙ same);
+        even = record {
+          links = length-set o.links i [] ∙ (even.links ∙ sym long);
+          breaks = length-set o.breaks i [] ∙ (even.breaks ∙ sym long);
+          notices = length-set o.notices i false ∙ (even.notices ∙ sym long);
+          few = (let few = even.few in omega (arith, few, long));
+        };
+      } in
+      subst (λ (m : Inner). AreHalves m o') (sym inside) (subst (AreHalves (vacated_inner name i n)) (sym outside) all)
+
+  pub left_whole : whole n' o' ≡ vacated name (whole n o)
+  left_whole = (λ j. whole (inside j) (outside j)) ∙ sym (vacated_is name i n o is)
 
 -- ---- an agent came
 put_short : {A : Type 0} (xs : List A) (i : ℕ) (x : A) → length (put_at xs i x) ≤ suc (length xs)

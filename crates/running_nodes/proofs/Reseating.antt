@@ -1,7 +1,6 @@
 -- The seat of an agent in the place of another's, or behind all.
-use Rattle.std.proofs.Common.{◌≡◌, ◌<◌, ◌≤◌, ◌+◌, ◌-◌, ◌^◌, ◌&&◌, ℕ, zero, suc, Bool, true, false, if◌then◌else◌, Option, Some, None, List, [], ◌∷◌, ◌++◌, length, map, take, drop, get_or, set, sym, ◌∙◌, ap, refl, subst, arith, IfSome, swap_remove, append-nil, length-append}
+use Rattle.std.proofs.Common.{◌≡◌, ◌<◌, ◌≤◌, ◌+◌, ◌-◌, ◌&&◌, ℕ, zero, suc, Bool, true, false, if◌then◌else◌, Option, Some, None, List, [], ◌∷◌, ◌++◌, length, map, take, drop, get_or, set, sym, ◌∙◌, ap, refl, subst, arith, IfSome, swap_remove, length-append}
 use Rattle.std.specs.Option.{option_map}
-use Rattle.std.specs.List.{All}
 use Rattle.ov_types.specs.First.{same_name}
 use Rattle.config_types.specs.declared.topology.Node.{Node}
 use Rattle.config_types.specs.declared.topology.Topology.{Topology}
@@ -12,13 +11,11 @@ use Rattle.running_model.specs.MachineModel.Session.{Agent}
 use Rattle.running_model.specs.MachineModel.Network.{same_role}
 use Rattle.running_model.specs.MachineModel.Setup.{Name}
 use Rattle.running_model.specs.Moving.{is_agent_named, reseated, seats_of}
-use Rattle.running_model.specs.Seats.{Forwarding, Seat, agent_plan, index_from, name_of, names_of, others_of, role_of}
-use Rattle.running_model.specs.Steps.{fresh_seat}
-use Rattle.running_nodes.specs.Cores.{IsRight, configured, controlled, forwarded, inners}
-use Rattle.running_nodes.specs.Fresh.{fresh_agents_of, fresh_outer, fresh_outers_of, replaced_at}
+use Rattle.running_model.specs.Seats.{Forwarding, Seat, agent_plan, index_from, name_of, role_of}
+use Rattle.running_nodes.specs.Cores.{configured, controlled, forwarded, inners}
+use Rattle.running_nodes.specs.Fresh.{fresh_agents_of, fresh_outers_of, replaced_at}
 use Rattle.running_nodes.specs.Halves.{AreAllHalves, Inner, Outer, joined, whole}
 use Rattle.running_nodes.proofs.Made.{agent_few, fresh_halves, fresh_joined, inner_agent}
-use Rattle.running_nodes.proofs.Stepping.{named}
 
 -- ---- lists
 shifted : {A : Type 0} (p : A → Bool) (xs : List A) (k : ℕ) → index_from (suc k) p xs ≡ option_map (λ i. suc i) (index_from k p xs)

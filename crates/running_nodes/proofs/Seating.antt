@@ -1,5 +1,5 @@
 -- What changes one seat of a network, or the agents of it, as the functions over both halves have it.
-use Rattle.std.proofs.Common.{◌≡◌, ◌<◌, ◌≤◌, ◌+◌, ◌^◌, ℕ, zero, suc, Bool, Option, Some, None, Result, Ok, Err, IfOk, OnOk, OnErr, IfSome, List, [], ◌∷◌, ◌++◌, length, map, take, drop, get_or, set, sym, ◌∙◌, ap, refl, subst, arith, length-append}
+use Rattle.std.proofs.Common.{◌≡◌, ◌<◌, ◌≤◌, ◌+◌, ℕ, zero, suc, Bool, Option, Some, None, Result, Ok, Err, IfOk, OnErr, IfSome, List, [], ◌∷◌, ◌++◌, length, map, take, drop, get_or, set, sym, ◌∙◌, ap, subst, arith, length-append}
 use Rattle.std.proofs.lemmas.List.{get_or-set_same, length-drop, length-map}
 use Rattle.std.proofs.lemmas.List.Elements.{All-append}
 use Rattle.std.specs.Option.{option_map}
@@ -13,17 +13,16 @@ use Rattle.running_model.specs.ConfigNode.Core as configuration
 use Rattle.running_model.specs.ControlNode.Core as control
 use Rattle.running_model.specs.MachineModel.Setup.{Name}
 use Rattle.running_model.specs.Controls.{Controls, first_agent}
-use Rattle.running_model.specs.Moving.{Leaves, number_for, number_in, reseated, seats_of}
+use Rattle.running_model.specs.Moving.{number_for, number_in, reseated, seats_of}
 use Rattle.running_model.specs.Seats.{Controlling, Seat, index_from, Who, name_there, names_of, other, others_of, seat}
-use Rattle.running_model.specs.Steps.{with_seat}
 use Rattle.running_nodes.specs.Changes.{IsAlone}
-use Rattle.running_nodes.specs.Cores.{IsRight, configured, controlled, forwarded, inners}
+use Rattle.running_nodes.specs.Cores.{IsRight, controlled, forwarded, inners}
 use Rattle.running_nodes.specs.Fresh.{fresh_agents_of, fresh_outers_of, replaced_at}
-use Rattle.running_nodes.specs.Halves.{AreAllHalves, AreHalves, Inner, Outer, inner, joined, no_inner, whole}
+use Rattle.running_nodes.specs.Halves.{AreAllHalves, AreHalves, Inner, Outer, inner, joined, no_inner}
 use Rattle.running_nodes.proofs.Found.{found_below}
 use Rattle.running_nodes.proofs.Reseating.{reseated_halves, reseated_seats}
 use Rattle.running_nodes.proofs.Halves.{as_many, halves_set, seat_at, set_itself}
-use Rattle.running_nodes.proofs.Standing.{below_all, seat_changed, whole_is}
+use Rattle.running_nodes.proofs.Standing.{below_all}
 use Rattle.running_nodes.proofs.Vacant.{peers_named}
 
 -- ---- the session of an agent that goes
@@ -58,17 +57,6 @@ pub halves_now : (ns ns' : List Inner) (os : List Outer) (j k : ℕ) (o' : Outer
 halves_now ns ns' os j k o' h same one new =
     subst (λ (i : ℕ). AreAllHalves ns' (set os i o')) (sym same)
     (subst (λ (ms : List Inner). AreAllHalves ms (set os k o')) (sym one) (halves_set ns os k (inner ns' k) o' h new))
-
-pub leaves_at : {T E : Type 0} (r : Result T E) (name : Name) (ns ns' : List Inner) (os : List Outer) (h : AreAllHalves ns os) (j k : ℕ)
-    (same : j ≡ k) (below : k < length os) (e o' : Outer) → e ≡ get_or os j e → ns' ≡ set ns k (inner ns' k)
-    → IfOk r (λ _. Leaves name (whole (inner ns k) e) (whole (inner ns' k) o'))
-    → IfOk r (λ _. (n' : Seat) × Leaves name (seat (joined ns os) k) n' × (joined ns' (set os j o') ≡ with_seat k n' (joined ns os)))
-leaves_at (Err x) name ns ns' os h j k same below e o' at one leaves = tt
-leaves_at (Ok x) name ns ns' os h j k same below e o' at one leaves = (
-  whole (inner ns' k) o',
-  subst (λ (n : Seat). Leaves name n (whole (inner ns' k) o')) (sym (whole_is ns os h j k same below e at)) leaves,
-  seat_changed ns os h j k same below ns' e o' at one,
-)
 
 pub one_set : (v v' : List Inner) (k : ℕ) (n : Inner) → v' ≡ set v k n → k < length v → v' ≡ set v k (inner v' k)
 one_set v v' k n is lt = is ∙ ap (λ (m : Inner). set v k m) (sym (set_there v v' k n is lt))

@@ -6,8 +6,8 @@ use Rattle.config_check.specs.Checked.{Checked}
 use Rattle.node_core.specs.Keeping.{AreSwept}
 use Rattle.running_model.specs.MachineModel.Setup.{Name}
 use Rattle.running_model.specs.Seats.{Seat, Configuring, nobody, others_of, seat}
-use Rattle.running_model.specs.Steps.{Configures, IsStepped, Takes, as_it_is, with_seat}
-use Rattle.running_nodes.specs.Changes.{ChangesOne, SetsOver, TakesOver}
+use Rattle.running_model.specs.Steps.{Configures, IsStepped, Passes, Takes, as_it_is, with_seat}
+use Rattle.running_nodes.specs.Changes.{ChangesOne, PassesOver, SetsOver, TakesOver}
 use Rattle.running_nodes.specs.Halves.{AreAllHalves, AreHalves, Inner, IsEven, Outer, inner, joined, no_inner, no_outer, outer, whole}
 use Rattle.running_nodes.proofs.Links.{edge_of}
 use Rattle.running_nodes.proofs.Halves.{as_many, as_many_seats, halves_at, halves_set, joined_set, same_at, seat_at, set_itself}
@@ -81,6 +81,17 @@ module _ (ns : List Inner) (os : List Outer) (h : AreAllHalves ns os) (j k : ℕ
       whole (inner ns' k) later,
       subst (λ (n : Seat). Takes n (whole (inner ns' k) later) input) (sym (whole_is e at))
           (subst (λ (o : Outer). Takes (whole (inner ns k) o) (whole (inner ns' k) later) input) view (takes notices)),
+      seat_changed ns' e later at one,
+    )
+
+    pub passes_at : {T E : Type 0} (r : Result T E) → ns' ≡ set ns k (inner ns' k)
+        → IfOk r (λ _. PassesOver ls ls' (inner ns k) (inner ns' k))
+        → IfOk r (λ _. (n' : Seat) × Passes (seat (joined ns os) k) n' × (joined ns' (set os j later) ≡ with_seat k n' (joined ns os)))
+    passes_at (Err x) one passes = tt
+    passes_at (Ok x) one passes = (
+      whole (inner ns' k) later,
+      subst (λ (n : Seat). Passes n (whole (inner ns' k) later)) (sym (whole_is e at))
+          (subst (λ (o : Outer). Passes (whole (inner ns k) o) (whole (inner ns' k) later)) view (passes notices)),
       seat_changed ns' e later at one,
     )
 

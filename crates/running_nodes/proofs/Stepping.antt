@@ -13,7 +13,7 @@ use Rattle.node_core.specs.Resting.{nothings}
 use Rattle.node_core.specs.Whole.{IsWholeStep, session_of}
 use Rattle.node_model.specs.Step.{Beginning, Post, Steps, nothing, post}
 use Rattle.running_model.specs.ConfigNode.Core as configuration
-use Rattle.running_model.specs.ControlNode.Agents.{is_retired}
+use Rattle.running_model.specs.ControlNode.Agents.{AreRetired, is_retired}
 use Rattle.running_model.specs.ControlNode.Beginning.{BeginsKeeping}
 use Rattle.running_model.specs.ControlNode.Core as control
 use Rattle.running_model.specs.ControlNode.Wanting as wanting
@@ -24,12 +24,12 @@ use Rattle.agent_node.specs.declared.plan.AgentPlan.{AgentPlan}
 use Rattle.running_model.specs.Controls.{controls_of}
 use Rattle.running_model.specs.Seats.{Who, Configuring, Controlling, Forwarding, kind_of, names_of, others_of}
 use Rattle.running_model.specs.Steps.{BeginsAt, all_of}
-use Rattle.running_nodes.specs.Changes.{SetsOver, TakesOver, emptied_inner}
+use Rattle.running_nodes.specs.Changes.{PassesOver, SetsOver, TakesOver, emptied_inner}
 use Rattle.running_nodes.specs.Cores.{IsVacated, configured, controlled, forwarded}
 use Rattle.running_nodes.specs.Halves.{Inner}
 use Rattle.running_model.specs.ConfigNode.Setting.{as_it_is}
 use Rattle.running_nodes.proofs.Failing.{failing_steps}
-use Rattle.running_nodes.proofs.Vacant.{begins_alike, node_steps, none_after, none_fresh, sessions_there}
+use Rattle.running_nodes.proofs.Vacant.{begins_alike, first_stays, node_steps, none_after, none_fresh, sessions_there}
 
 -- ---- a step
 pub takes_over : {C : Type 0} (n n' : Inner) (input : Input) (links links' : List FailingState) (left : List ℕ)
@@ -162,6 +162,26 @@ agent_long a a' is long kept =
     fresh_long (Forwarding a.plan) a.posts a.kept (agent.sessions a.plan) (sessions_of_agent a.plan) long kept (forwarded a') (ap forwarded is)
 
 -- ---- another configuration
+pub control_passes : (c c' : control.Core) (links links' : List FailingState) (lowest : Option ℕ) → AreRetired c.plan → IsVacated c
+    → c'.plan ≡ c.plan → 0 < length c.posts → length links' ≡ length links
+    → Steps (wanting.kind c.plan) (λ (l : FailingState). Some l.accepted) (λ (l : FailingState). Some l.breaks) (λ (l : FailingState). l.faults)
+    c.posts c'.posts 0 (as_it_is c.posts) links links' lowest
+    → AreSwept c'.posts c.kept c'.kept
+    → PassesOver links links' (controlled c) (controlled c') × IsVacated c'
+control_passes c c' links links' lowest are vacated same some long steps swept =
+    let stays = first_stays c.plan are in (
+      λ notices. record {
+        stepped = failing_steps (controlled c) (controlled c') 0 (as_it_is c.posts) links links' lowest
+            (ap (λ (plan : ControlPlan). Controlling (controls_of plan)) same) some long
+            (node_steps c.plan c.posts c'.posts vacated.none 0 stays (as_it_is c.posts) links links' lowest steps) notices;
+        swept = swept;
+      },
+      record {
+        none = λ j gone. none_after c.plan c.posts c'.posts vacated.none 0 stays (as_it_is c.posts) links links' lowest steps j
+            (ap (λ (plan : ControlPlan). is_retired plan j) (sym same) ∙ gone);
+      },
+    )
+
 pub sets_over : (c c' : configuration.Core) (y : Checked) (links links' : List FailingState) (lowest : Option ℕ)
     → 0 < length c.posts → length links' ≡ length links → c'.setup ≡ y
     → Steps (configuration.kind y) (λ (l : FailingState). Some l.accepted) (λ (l : FailingState). Some l.breaks) (λ (l : FailingState). l.faults)

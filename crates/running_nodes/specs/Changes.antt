@@ -15,8 +15,8 @@ use Rattle.running_model.specs.MachineModel.Setup.{Name, with_agent}
 use Rattle.running_model.specs.Controls.{Controls, first_agent}
 use Rattle.running_model.specs.Moving.{number_for, retired_of}
 use Rattle.running_model.specs.Seats.{Who, Configuring, Controlling, name_of, others_of}
-use Rattle.running_model.specs.Steps.{IsStepped, Takes, all_of, as_it_is, forwarder_of, shown_by}
-use Rattle.running_nodes.specs.Halves.{Inner, Outer, inner, over, seated, whole}
+use Rattle.running_model.specs.Steps.{IsStepped, Passes, Takes, all_of, as_it_is, forwarder_of, shown_by}
+use Rattle.running_nodes.specs.Halves.{Inner, Outer, inner, over, seated}
 
 -- nothing but the node of this number changes, which keeps its name and its sessions
 pub record ChangesOne (k : ℕ) (ns ns' : List Inner) : Type 0 where
@@ -29,6 +29,10 @@ pub record ChangesOne (k : ℕ) (ns ns' : List Inner) : Type 0 where
 -- a node takes an input, whatever notices wait at its ends
 abbrev pub TakesOver : List FailingState → List FailingState → Inner → Inner → Input → Type 0
 TakesOver links links' n n' input = (notices : List Bool) → Takes (over n links notices) (over n' links' notices) input
+
+-- a node makes its pass, whatever notices wait at its ends
+abbrev pub PassesOver : List FailingState → List FailingState → Inner → Inner → Type 0
+PassesOver links links' n n' = (notices : List Bool) → Passes (over n links notices) (over n' links' notices)
 
 -- the configuration node has another configuration
 abbrev pub SetsOver : List FailingState → List FailingState → Inner → Inner → Checked → Type 0
@@ -57,19 +61,6 @@ emptied_at i o = record o {
   breaks = slice_set o.breaks i [];
   notices = slice_set o.notices i false;
 }
-
--- the session with the agent is taken away, whatever notices wait at the ends, and all others are told
-abbrev pub LeavesOver : Name → ℕ → List FailingState → List FailingState → Inner → Inner → Type 0
-LeavesOver name i links links' n n' =
-    ((notices : List Bool) → IsStepped (over (vacated_inner name i n) links notices) (over n' links' notices) 0
-    (as_it_is (over (vacated_inner name i n) links notices)))
-    × AreSwept n'.posts (slice_set n.kept i []) n'.kept
-
--- the same, at ends with the notices that wait there
-abbrev pub LeavesFrom : Name → ℕ → Inner → Outer → Inner → Outer → Type 0
-LeavesFrom name i n o n' o' =
-    IsStepped (whole (vacated_inner name i n) o) (whole n' o') 0 (as_it_is (whole (vacated_inner name i n) o))
-    × AreSwept n'.posts (slice_set n.kept i []) n'.kept
 
 -- this session of a node is with an agent of this name, and no other one is with a node of the name
 pub record IsAlone (name : Name) (i : ℕ) (n : Inner) : Type 0 where

@@ -5,10 +5,10 @@ ghost use Rattle.running_model.specs.ControlNode.Core.{fresh};
 ghost use Rattle.node_core.specs.Whole.{Comes, session_of};
 ghost use Rattle.running_model.specs.MachineModel.Setup.{Name as NameOf};
 ghost use Rattle.running_model.specs.Controls.{controls_of};
-ghost use Rattle.running_model.specs.Moving.{number_for, retired_of};
+ghost use Rattle.running_model.specs.Moving.{number_for};
 ghost use Rattle.running_model.specs.Seats.{others_of};
-ghost use Rattle.running_nodes.specs.Changes.{IsAlone, LeavesOver, SetsOver, TakesOver, emptied_inner, joined_inner};
-ghost use Rattle.running_nodes.specs.Changes.{shown};
+ghost use Rattle.running_nodes.specs.Changes.{IsAlone, PassesOver, SetsOver, TakesOver, emptied_inner, joined_inner};
+ghost use Rattle.running_nodes.specs.Changes.{shown, vacated_inner};
 ghost use Rattle.running_nodes.specs.Cores.{IsRight, IsVacated, configured, controlled, forwarded};
 ghost use Rattle.running_nodes.specs.Halves.{live};
 
@@ -76,38 +76,48 @@ pub(crate) fn take_control(
     Ok(())
 }
 
-/// The agent of this name goes from its session with a control node, which tells each other session what is wanted
-/// without it. A send that fails closes its end, and the agent goes all the same. Where memory is wanting, the agent
-/// stays, and nothing is left of what the node had.
+/// The agent of this name goes from its session with a control node, at which there is nothing then. Where memory is
+/// wanting, nothing changes.
 pub(crate) fn leave_control(
     node: &mut ControlNode,
     session: u16,
     name: &Name,
-    links: &mut Links<FailingLink>,
 ) -> Result<(), NoMemory>
     requires alone { IsAlone name.now session (controlled node.old) }
     requires vacated { IsVacated node.old }
     requires long { length node.old.posts ≡ length (others_of (controlled node.old).who) }
-    requires kept { length node.old.kept ≡ length (others_of (controlled node.old).who) }
-    requires linked { length links.old ≡ length (others_of (controlled node.old).who) }
-    ensures who { OnOk result ((controlled node.new).who ≡ retired_of name.now (controlled node.old).who) }
-    ensures stays { OnErr result (node.new.plan ≡ node.old.plan) }
-    ensures long { length node.new.posts ≡ length node.old.posts }
-    ensures kept { length node.new.kept ≡ length node.old.kept }
-    ensures links { length links.new ≡ length links.old }
-    ensures leaves { IfOk result (λ _. LeavesOver name.now session links.old links.new (controlled node.old)
-        (controlled node.new)) }
+    ensures left { OnOk result (controlled node.new ≡ vacated_inner name.now session (controlled node.old)) }
+    ensures err { OnErr result (node.new ≡ node.old) }
     ensures vacated { IsVacated node.new }
 {
     let _retired = node.is_retired(0);
-    match node.remove_agent(session, links) {
-        Ok(()) => Ok(()),
-        Err(NodeFault::LinkFailed { .. }) => Ok(()),
-        Err(NodeFault::NoMemory) => {
-            node.restart();
-            Err(NoMemory)
-        }
+    node.retire_agent(session)
+}
+
+/// A control node tells each session what is wanted now. A send that fails closes its end. Where memory is wanting, nothing
+/// is left of what the node had.
+pub(crate) fn tell_control(
+    node: &mut ControlNode,
+    links: &mut Links<FailingLink>,
+) -> Result<(), NoMemory>
+    requires vacated { IsVacated node.old }
+    requires long { length node.old.posts ≡ length (others_of (controlled node.old).who) }
+    requires kept { length node.old.kept ≡ length (others_of (controlled node.old).who) }
+    requires linked { length links.old ≡ length (others_of (controlled node.old).who) }
+    ensures plan { node.new.plan ≡ node.old.plan }
+    ensures long { length node.new.posts ≡ length node.old.posts }
+    ensures kept { length node.new.kept ≡ length node.old.kept }
+    ensures links { length links.new ≡ length links.old }
+    ensures passes { IfOk result (λ _. PassesOver links.old links.new (controlled node.old) (controlled node.new)) }
+    ensures vacated { IsVacated node.new }
+{
+    let _retired = node.is_retired(0);
+    let _told = node.tell(links);
+    if node.failed() {
+        node.restart();
+        return Err(NoMemory);
     }
+    Ok(())
 }
 
 /// An agent comes to a control node, at whose session with it there is nothing. Gives the number of the session. Where

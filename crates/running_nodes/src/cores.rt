@@ -8,15 +8,15 @@ ghost use Rattle.route_targets.specs.Forwarding.{forwarding};
 ghost use Rattle.running_model.specs.Seats.{Configuring, Controlling, is_up, others_of};
 ghost use Rattle.running_model.specs.MachineModel.Setup.{Name as NameOf};
 ghost use Rattle.running_model.specs.Controls.{Controls};
-ghost use Rattle.running_model.specs.Moving.{number_for, retired_of};
+ghost use Rattle.running_model.specs.Moving.{number_for};
 ghost use Rattle.running_nodes.specs.Cores.{HoldsAs, held_by};
-ghost use Rattle.running_nodes.specs.Changes.{ChangesOne, IsAlone, LeavesOver, SetsOver, TakesOver, emptied_inner};
-ghost use Rattle.running_nodes.specs.Changes.{forwarders, joined_inner, shown};
+ghost use Rattle.running_nodes.specs.Changes.{ChangesOne, IsAlone, PassesOver, SetsOver, TakesOver, emptied_inner};
+ghost use Rattle.running_nodes.specs.Changes.{forwarders, joined_inner, shown, vacated_inner};
 ghost use Rattle.running_nodes.specs.Halves.{inner, live, seated};
 
 use crate::acting::{
     join_control, leave_control, restart_agent, restart_control, set_config, show_agent,
-    show_control, take_agent, take_config, take_control,
+    show_control, take_agent, take_config, take_control, tell_control,
 };
 use crate::kinds::{NodeRole, kind_of};
 use config_check::Valid;
@@ -120,35 +120,37 @@ impl Cores {
         }
     }
 
-    /// The agent of this name goes from its session with a control node.
-    pub(crate) fn leave(
-        &mut self,
-        node: u16,
-        session: u16,
-        name: &Name,
-        links: &mut Links<FailingLink>,
-    ) -> Result<(), NoMemory>
+    /// The agent of this name goes from its session with a control node. Where memory is wanting, nothing changes.
+    pub(crate) fn leave(&mut self, node: u16, session: u16, name: &Name) -> Result<(), NoMemory>
         requires node { node < length self.old }
         requires alone { IsAlone name.now session (inner self.old node) }
         requires long { length (inner self.old node).posts ≡ length (others_of (inner self.old node).who) }
+        ensures left { OnOk result (self.new
+            ≡ slice_set self.old node (vacated_inner name.now session (inner self.old node))) }
+        ensures err { OnErr result (self.new ≡ self.old) }
+    {
+        match kind_of(self.controls.len(), node) {
+            NodeRole::Control(place) => leave_control(&mut self.controls[place], session, name),
+            NodeRole::Configuration => unreachable!(),
+            NodeRole::Agent(_) => unreachable!(),
+        }
+    }
+
+    /// A control node tells each of its sessions what it wants now. Where memory is wanting, nothing is left of what the
+    /// node had.
+    pub(crate) fn tell(&mut self, node: u16, links: &mut Links<FailingLink>) -> Result<(), NoMemory>
+        requires node { node < length self.old }
+        requires control { (c : Controls) × ((inner self.old node).who ≡ Controlling c) }
+        requires long { length (inner self.old node).posts ≡ length (others_of (inner self.old node).who) }
         requires kept { length (inner self.old node).kept ≡ length (others_of (inner self.old node).who) }
         requires linked { length links.old ≡ length (others_of (inner self.old node).who) }
-        ensures one { self.new ≡ slice_set self.old node (inner self.new node) }
-        ensures who { OnOk result ((inner self.new node).who ≡ retired_of name.now (inner self.old node).who) }
-        ensures stays { OnErr result ((inner self.new node).who ≡ (inner self.old node).who) }
-        ensures long { length (inner self.new node).posts ≡ length (inner self.old node).posts }
-        ensures kept { length (inner self.new node).kept ≡ length (inner self.old node).kept }
+        ensures one { ChangesOne node self.old self.new }
         ensures links { length links.new ≡ length links.old }
-        ensures leaves { IfOk result (λ _. LeavesOver name.now session links.old links.new (inner self.old node)
+        ensures passes { IfOk result (λ _. PassesOver links.old links.new (inner self.old node)
             (inner self.new node)) }
     {
         match kind_of(self.controls.len(), node) {
-            NodeRole::Control(place) => leave_control(
-                &mut self.controls[place],
-                session,
-                name,
-                links,
-            ),
+            NodeRole::Control(place) => tell_control(&mut self.controls[place], links),
             NodeRole::Configuration => unreachable!(),
             NodeRole::Agent(_) => unreachable!(),
         }

@@ -12,11 +12,10 @@ ghost use Rattle.running_model.specs.Seats as seats_of;
 ghost use Rattle.running_model.specs.Seats.{Configuring, Seat, is_live, kept_at, link_at, live_at, notice_at, other, seat};
 ghost use Rattle.running_model.specs.Seats.{Controlling, index_from, up_at, whos};
 ghost use Rattle.running_model.specs.Controls.{Controls, first_agent};
-ghost use Rattle.running_model.specs.Moving.{Leaves, joined as joined_by_agent, reseated, retired_of};
-ghost use Rattle.running_model.specs.Moving.{seats_of as new_seats};
-ghost use Rattle.running_model.specs.Steps.{Configures, Takes, emptied, forwarders_of, fresh_seat, shown_by};
+ghost use Rattle.running_model.specs.Moving.{joined as joined_by_agent, reseated, seats_of as new_seats, vacated};
+ghost use Rattle.running_model.specs.Steps.{Configures, Passes, Takes, emptied, forwarders_of, fresh_seat, shown_by};
 ghost use Rattle.running_model.specs.Steps.{unbroken, untaken, with_break_at, with_link, with_notice, with_seat};
-ghost use Rattle.running_nodes.specs.Changes.{IsAlone, LeavesFrom, unbroken_outer};
+ghost use Rattle.running_nodes.specs.Changes.{IsAlone, unbroken_outer};
 ghost use Rattle.running_model.specs.MachineModel.Setup.{Name as NameOf, opening};
 ghost use Rattle.running_nodes.specs.Cores.{HoldsAs, held_by};
 ghost use Rattle.running_nodes.specs.Halves.{AreAllHalves, AreHalves, IsEven, inner, joined, whole};
@@ -81,31 +80,6 @@ fn set_valid_at(cores: &mut Cores, edges: &mut [Edge], valid: Valid) -> Result<(
     cores.set_valid(valid, &mut edge.links)
 }
 
-/// The agent of this name goes from its session with a control node, whose ends these are, and at which there is
-/// nothing of the session.
-fn leave_linked(
-    cores: &mut Cores,
-    edge: &mut Edge,
-    place: SessionPlace,
-    name: &Name,
-) -> Result<(), NoMemory>
-    requires node { place.node < length cores.old }
-    requires halves { AreHalves (inner cores.old place.node) edge.old }
-    requires alone { IsAlone name.now place.session (inner cores.old place.node) }
-    ensures one { cores.new ≡ slice_set cores.old place.node (inner cores.new place.node) }
-    ensures who { OnOk result ((inner cores.new place.node).who ≡ retired_of name.now (inner cores.old place.node).who) }
-    ensures halves { OnErr result (AreHalves (inner cores.new place.node) edge.new) }
-    ensures long { length (inner cores.new place.node).posts ≡ length (inner cores.old place.node).posts }
-    ensures kept { length (inner cores.new place.node).kept ≡ length (inner cores.old place.node).kept }
-    ensures name { edge.new.name ≡ edge.old.name }
-    ensures others { edge.new.others ≡ edge.old.others }
-    ensures even { IsEven edge.new }
-    ensures leaves { IfOk result (λ _. LeavesFrom name.now place.session (inner cores.old place.node) edge.old
-        (inner cores.new place.node) edge.new) }
-{
-    cores.leave(place.node, place.session, name, &mut edge.links)
-}
-
 /// The agent of this name goes from its session with a control node, whose ends these are.
 fn leave_over(
     cores: &mut Cores,
@@ -118,11 +92,11 @@ fn leave_over(
     requires alone { IsAlone name.now place.session (inner cores.old place.node) }
     ensures one { cores.new ≡ slice_set cores.old place.node (inner cores.new place.node) }
     ensures halves { AreHalves (inner cores.new place.node) edge.new }
-    ensures leaves { IfOk result (λ _. Leaves name.now (whole (inner cores.old place.node) edge.old)
-        (whole (inner cores.new place.node) edge.new)) }
+    ensures left { IfOk result (λ _. whole (inner cores.new place.node) edge.new
+        ≡ vacated name.now (whole (inner cores.old place.node) edge.old)) }
 {
+    cores.leave(place.node, place.session, name)?;
     edge.empty(place.session);
-    leave_linked(cores, edge, place, name)?;
     edge.set_other(place.session, None);
     Ok(())
 }
@@ -138,10 +112,24 @@ fn leave_at(
     requires node { place.node < length (joined cores.old edges.old) }
     requires alone { IsAlone name.now place.session (inner cores.old place.node) }
     ensures halves { AreAllHalves cores.new edges.new }
-    ensures leaves { IfOk result (λ _. (n' : Seat) × Leaves name.now (seat (joined cores.old edges.old) place.node) n'
-        × (joined cores.new edges.new ≡ with_seat place.node n' (joined cores.old edges.old))) }
+    ensures left { IfOk result (λ _. joined cores.new edges.new
+        ≡ with_seat place.node (vacated name.now (seat (joined cores.old edges.old) place.node))
+        (joined cores.old edges.old)) }
 {
     leave_over(cores, &mut edges[usize::from(place.node)], place, name)
+}
+
+/// A control node tells each of its sessions what it wants now. The seats keep their halves, also where memory is wanting.
+fn tell_at(cores: &mut Cores, edges: &mut [Edge], node: u16) -> Result<(), NoMemory>
+    requires halves { AreAllHalves cores.old edges.old }
+    requires node { node < length (joined cores.old edges.old) }
+    requires control { (c : Controls) × ((seat (joined cores.old edges.old) node).who ≡ Controlling c) }
+    ensures halves { AreAllHalves cores.new edges.new }
+    ensures passes { IfOk result (λ _. (n' : Seat) × Passes (seat (joined cores.old edges.old) node) n'
+        × (joined cores.new edges.new ≡ with_seat node n' (joined cores.old edges.old))) }
+{
+    let edge = &mut edges[usize::from(node)];
+    cores.tell(node, &mut edge.links)
 }
 
 /// An agent comes to a control node, whose ends these are. Where memory is wanting, the two may not agree.
@@ -514,19 +502,36 @@ impl Nodes {
         }
     }
 
-    /// The agent of this name goes from its session with a control node: at its place there is nothing then and nobody,
-    /// and all other sessions of the node are told what is wanted without it.
-    pub fn remove_agent(&mut self, place: SessionPlace, name: &Name) -> Result<(), NoMemory>
+    /// The agent of this name goes from its session with a control node: at its place there is nothing then and nobody.
+    /// Nobody is told yet of what is wanted without it.
+    pub fn retire_agent(&mut self, place: SessionPlace, name: &Name) -> Result<(), NoMemory>
         requires node { place.node < length self.old.seats }
         requires agent { (c : Controls) × ((seat self.old.seats place.node).who ≡ Controlling c)
             × (first_agent c ≤ place.session) }
         requires there { other (seat self.old.seats place.node) place.session ≡ Some name.now }
         requires alone { (i : ℕ) → other (seat self.old.seats place.node) i ≡ Some name.now → i ≡ place.session }
-        ensures leaves { IfOk result (λ _. (n' : Seat) × Leaves name.now (seat self.old.seats place.node) n'
-            × (self.new.seats ≡ with_seat place.node n' self.old.seats)) }
+        ensures left { IfOk result (λ _. self.new.seats
+            ≡ with_seat place.node (vacated name.now (seat self.old.seats place.node)) self.old.seats) }
         ensures failed { IfOk result (λ _. self.new.failed ≡ self.old.failed) }
     {
         match leave_at(&mut self.cores, &mut self.edges, place, name) {
+            Ok(()) => Ok(()),
+            Err(NoMemory) => {
+                self.failed = true;
+                Err(NoMemory)
+            }
+        }
+    }
+
+    /// A control node makes its pass: it tells each of its sessions what it wants now.
+    pub fn tell(&mut self, node: u16) -> Result<(), NoMemory>
+        requires node { node < length self.old.seats }
+        requires control { (c : Controls) × ((seat self.old.seats node).who ≡ Controlling c) }
+        ensures passes { IfOk result (λ _. (n' : Seat) × Passes (seat self.old.seats node) n'
+            × (self.new.seats ≡ with_seat node n' self.old.seats)) }
+        ensures failed { IfOk result (λ _. self.new.failed ≡ self.old.failed) }
+    {
+        match tell_at(&mut self.cores, &mut self.edges, node) {
             Ok(()) => Ok(()),
             Err(NoMemory) => {
                 self.failed = true;

@@ -1,22 +1,38 @@
-use Rattle.std.proofs.Common.{ℕ, IfOk, sym, ◌∙◌, subst}
+use Rattle.std.proofs.Common.{ℕ, List, IfOk, sym, ◌∙◌, ap, subst, ◌≡◌}
 use Rattle.std.specs.declared.option.Option.{Option}
-use Rattle.running_nodes.specs.RunningModel.Moving.{LeavesAt}
+use Rattle.running_nodes.specs.RunningModel.Moving.{left_at}
 use Rattle.net_machine.proofs.Leaving.{no_place, place_is_agents, place_node}
 use Rattle.net_machine.proofs.moving.leave.Goals as goal
 
-pub leave_at-requires-clause-agent : goal.leave_at-requires-clause-agent
-leave_at-requires-clause-agent c =
-    place_is_agents _ c.args.name.now c.args.control.now c.in-Some.place c.requires.agent
-    (sym c.place_of.ensures ∙ c.in-Some.is)
+pub retire_agent-requires-clause-node : goal.retire_agent-requires-clause-node
+retire_agent-requires-clause-node c =
+    (place_is_agents _ c.args.name.now c.args.control.now c.in-Some.place c.requires.agent
+    (sym c.place_of.ensures ∙ c.in-Some.is)).node
 
-pub returns-in-None-clause-leaves : goal.returns-in-None-clause-leaves
-returns-in-None-clause-leaves c =
+pub retire_agent-requires-clause-agent : goal.retire_agent-requires-clause-agent
+retire_agent-requires-clause-agent c =
+    let p = place_is_agents _ c.args.name.now c.args.control.now c.in-Some.place c.requires.agent
+    (sym c.place_of.ensures ∙ c.in-Some.is) in
+    (p.controls, p.who, p.behind)
+
+pub retire_agent-requires-clause-there : goal.retire_agent-requires-clause-there
+retire_agent-requires-clause-there c =
+    (place_is_agents _ c.args.name.now c.args.control.now c.in-Some.place c.requires.agent
+    (sym c.place_of.ensures ∙ c.in-Some.is)).there
+
+pub retire_agent-requires-clause-alone : goal.retire_agent-requires-clause-alone
+retire_agent-requires-clause-alone c =
+    (place_is_agents _ c.args.name.now c.args.control.now c.in-Some.place c.requires.agent
+    (sym c.place_of.ensures ∙ c.in-Some.is)).alone
+
+pub returns-in-None-clause-left : goal.returns-in-None-clause-left
+returns-in-None-clause-left c =
     absurd (no_place _ c.args.name.now c.args.control.now c.requires.agent (sym c.place_of.ensures ∙ c.in-None.is))
 
-pub returns-in-Some-clause-leaves : goal.returns-in-Some-clause-leaves
-returns-in-Some-clause-leaves c =
+pub returns-in-Some-clause-left : goal.returns-in-Some-clause-left
+returns-in-Some-clause-left c =
     let seats = c.args.nodes.now.seats in
-    subst (λ (o : Option ℕ). IfOk c.leave_at.result (λ _. LeavesAt c.args.name.now o seats c.leave_at.new.nodes.seats))
+    subst (λ (o : Option ℕ). IfOk c.retire_agent.result (λ _. c.retire_agent.new.self.seats ≡ left_at c.args.name.now o seats))
     (sym (place_node seats c.args.name.now c.args.control.now c.in-Some.place c.requires.agent
     (sym c.place_of.ensures ∙ c.in-Some.is)))
-    c.leave_at.ensures.leaves
+    c.retire_agent.ensures.left

@@ -1,4 +1,4 @@
-use Rattle.std.proofs.Common.{ap, arith, length, subst, sym, IfSome, Option, ℕ, [], ◌∷◌, List, ◌≡◌, ◌<◌, ◌+◌, ◌∙◌}
+use Rattle.std.proofs.Common.{arith, length, subst, sym, IfSome, Option, ℕ, [], ◌∷◌, ◌≡◌, ◌<◌, ◌+◌}
 use Rattle.std.specs.Option.{option_map}
 use Rattle.running_nodes.specs.Fresh.{replaced_at}
 use Rattle.running_nodes.proofs.Reseating.{last_came}

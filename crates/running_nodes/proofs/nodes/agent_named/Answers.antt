@@ -1,4 +1,4 @@
-use Rattle.std.proofs.Common.{arith, ap, length, drop}
+use Rattle.std.proofs.Common.{arith}
 use Rattle.std.proofs.lemmas.List.{length-drop}
 use Rattle.running_nodes.proofs.nodes.agent_named.Goals as goal
 

@@ -1,10 +1,10 @@
-use Rattle.std.proofs.Common.{ap, arith, length, sym, ◌≡◌, ◌≤◌, ◌<◌, ◌∙◌}
+use Rattle.std.proofs.Common.{ap, arith, length, ◌≡◌, ◌<◌}
 use Rattle.std.proofs.lemmas.Result.{on_ok_weaker}
 use Rattle.running_nodes.specs.Changes.{joined_inner}
-use Rattle.running_nodes.specs.Halves.{Outer, inner}
+use Rattle.running_nodes.specs.Halves.{inner}
 use Rattle.running_model.specs.Seats.{others_of}
 use Rattle.running_nodes.proofs.Moved.{joined_halves, joined_whole}
-use Rattle.running_nodes.proofs.Seating.{now_there, number_near, one_same, one_set}
+use Rattle.running_nodes.proofs.Seating.{now_there, number_near, one_set}
 use Rattle.running_nodes.proofs.nodes.join_over.Goals as goal
 
 pub join-requires-clause-long : goal.join-requires-clause-long

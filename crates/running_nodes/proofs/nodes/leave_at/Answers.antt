@@ -1,9 +1,12 @@
-use Rattle.std.proofs.Common.{IfOk, ap, arith, length, subst, sym, ◌<◌, ◌≡◌, ◌∙◌}
-use Rattle.running_model.specs.Moving.{Leaves}
+use Rattle.std.proofs.Common.{ap, arith, length, subst, sym, ◌<◌, ◌≡◌, ◌∙◌}
+use Rattle.std.proofs.lemmas.Result.{IfOk-weaker}
+use Rattle.running_model.specs.Moving.{vacated}
+use Rattle.running_model.specs.Seats.{Seat}
+use Rattle.running_model.specs.Steps.{with_seat}
 use Rattle.running_nodes.specs.Halves.{AreHalves, Outer, inner, joined, whole}
 use Rattle.running_nodes.proofs.Halves.{as_many_seats}
-use Rattle.running_nodes.proofs.Seating.{halves_now, leaves_at}
-use Rattle.running_nodes.proofs.Standing.{below_inner, halves_are}
+use Rattle.running_nodes.proofs.Seating.{halves_now}
+use Rattle.running_nodes.proofs.Standing.{below_inner, halves_are, seat_changed, whole_is}
 use Rattle.running_nodes.proofs.nodes.leave_at.Goals as goal
 
 pub bounds-edges-from : goal.bounds-edges-from
@@ -23,10 +26,15 @@ pub returns-clause-halves : goal.returns-clause-halves
 returns-clause-halves c =
     halves_now c.args.cores.now c.leave_over.new.cores c.args.edges.now c.from.result c.args.place.node c.leave_over.new.edge c.requires.halves c.from.ensures c.leave_over.ensures.one c.leave_over.ensures.halves
 
-pub returns-clause-leaves : goal.returns-clause-leaves
-returns-clause-leaves c =
-    leaves_at c.leave_over.result c.args.name.now c.args.cores.now c.leave_over.new.cores c.args.edges.now c.requires.halves c.from.result c.args.place.node c.from.ensures
-    (let many : length (joined c.args.cores.now c.args.edges.now) ≡ length c.args.edges.now = as_many_seats c.args.cores.now c.args.edges.now c.requires.halves in let lt : c.args.place.node < length c.args.edges.now = omega (arith, c.requires.node) in lt)
-    c.index-edges-from.result c.leave_over.new.edge c.index-edges-from.is c.leave_over.ensures.one
-    (subst (λ (o : Outer). IfOk c.leave_over.result (λ _. Leaves c.args.name.now (whole (inner c.args.cores.now c.args.place.node) o) (whole (inner c.leave_over.new.cores c.args.place.node) c.leave_over.new.edge)))
-    (sym c.index-edges-from.is) c.leave_over.ensures.leaves)
+pub returns-clause-left : goal.returns-clause-left
+returns-clause-left c =
+    let below : c.args.place.node < length c.args.edges.now = (let many : length (joined c.args.cores.now c.args.edges.now) ≡ length c.args.edges.now = as_many_seats c.args.cores.now c.args.edges.now c.requires.halves in let lt : c.args.place.node < length c.args.edges.now = omega (arith, c.requires.node) in lt) in
+    IfOk-weaker c.leave_over.result _ _
+    (λ _ is. seat_changed c.args.cores.now c.args.edges.now c.requires.halves c.from.result c.args.place.node c.from.ensures below
+    c.leave_over.new.cores c.index-edges-from.result c.leave_over.new.edge c.index-edges-from.is c.leave_over.ensures.one
+    ∙ ap (λ (n : Seat). with_seat c.args.place.node n (joined c.args.cores.now c.args.edges.now))
+    (is ∙ ap (λ (o : Outer). vacated c.args.name.now (whole (inner c.args.cores.now c.args.place.node) o)) (sym c.index-edges-from.is)
+    ∙ ap (vacated c.args.name.now)
+    (sym (whole_is c.args.cores.now c.args.edges.now c.requires.halves c.from.result c.args.place.node c.from.ensures below
+    c.index-edges-from.result c.index-edges-from.is))))
+    c.leave_over.ensures.left

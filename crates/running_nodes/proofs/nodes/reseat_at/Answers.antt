@@ -1,4 +1,4 @@
-use Rattle.std.proofs.Common.{IfOk, List, ap, arith, length, refl, subst, sym, ◌<◌, ◌≡◌, ◌≤◌, ◌+◌, ◌∙◌}
+use Rattle.std.proofs.Common.{IfOk, List, arith, subst, sym, ◌≡◌, ◌+◌}
 use Rattle.running_nodes.specs.Halves.{AreAllHalves, Inner, Outer, joined}
 use Rattle.std.specs.Prelude.{drop, option_copied}
 use Rattle.running_model.specs.Seats.{index_from}

@@ -1,13 +1,10 @@
-use Rattle.std.proofs.Common.{arith, ap, subst, sym, ◌≡◌, ◌∙◌, IfOk, OnErr, OnOk, length}
-use Rattle.std.proofs.lemmas.Result.{on_err_weaker}
-use Rattle.running_model.specs.ControlNode.ControlPlan.{ControlPlan}
-use Rattle.running_model.specs.Controls.{controls_of}
-use Rattle.running_model.specs.Moving.{retired_of}
+use Rattle.std.proofs.Common.{arith, ap, subst, sym, ◌≡◌, ◌∙◌, length}
+use Rattle.std.proofs.lemmas.Result.{on_err_weaker, on_ok_weaker}
 use Rattle.running_model.specs.Seats.{Configuring, Controlling, Forwarding, others_of}
-use Rattle.running_nodes.specs.Changes.{IsAlone, LeavesOver}
+use Rattle.running_nodes.specs.Changes.{IsAlone, vacated_inner}
 use Rattle.running_nodes.specs.Halves.{Inner}
 use Rattle.running_nodes.proofs.Numbers.{agent_is, agent_within, config_is, control_is, standing_at}
-use Rattle.running_nodes.proofs.Shifts.{of_both, one_set}
+use Rattle.running_nodes.proofs.Shifts.{becomes, unchanged}
 use Rattle.running_nodes.proofs.cores.Cores.leave.Goals as goal
 
 pub leave_control-requires-clause-alone : goal.leave_control-requires-clause-alone
@@ -22,51 +19,15 @@ leave_control-requires-clause-long c =
     (control_is c.args.self.now c.self.inside.config c.self.inside.controls.items c.self.inside.agents.items c.args.node c.len.result c.in-Control.place c.self.view_is (omega (arith, c.len.ensures, c.self.inside.controls.ok.0)) c.index_mut.result.now c.in-Control.ensures.number c.in-Control.ensures.within c.index_mut.ensures.value)
     c.requires.long
 
-pub leave_control-requires-clause-kept : goal.leave_control-requires-clause-kept
-leave_control-requires-clause-kept c =
-    subst (λ (n : Inner). length n.kept ≡ length (others_of n.who))
-    (control_is c.args.self.now c.self.inside.config c.self.inside.controls.items c.self.inside.agents.items c.args.node c.len.result c.in-Control.place c.self.view_is (omega (arith, c.len.ensures, c.self.inside.controls.ok.0)) c.index_mut.result.now c.in-Control.ensures.number c.in-Control.ensures.within c.index_mut.ensures.value)
-    c.requires.kept
+pub returns-clause-left : goal.returns-clause-left
+returns-clause-left c =
+    on_ok_weaker c.leave_control.result (λ is. becomes c.args.self.now c.self.inside.config c.self.inside.controls.items c.self.inside.agents.items c.args.node c.len.result c.in-Control.place c.self.view_is (omega (arith, c.len.ensures, c.self.inside.controls.ok.0)) c.in-Control.ensures.number c.in-Control.ensures.within c.requires.node c.index_mut.result.now c.leave_control.new.node c.index_mut.ensures.value (vacated_inner c.args.name.now c.args.session) is)
+    c.leave_control.ensures.left
 
-pub leave_control-requires-clause-linked : goal.leave_control-requires-clause-linked
-leave_control-requires-clause-linked c =
-    subst (λ (n : Inner). length c.args.links.now ≡ length (others_of n.who))
-    (control_is c.args.self.now c.self.inside.config c.self.inside.controls.items c.self.inside.agents.items c.args.node c.len.result c.in-Control.place c.self.view_is (omega (arith, c.len.ensures, c.self.inside.controls.ok.0)) c.index_mut.result.now c.in-Control.ensures.number c.in-Control.ensures.within c.index_mut.ensures.value)
-    c.requires.linked
-
-pub returns-clause-one : goal.returns-clause-one
-returns-clause-one c =
-    one_set c.args.self.now c.self.inside.config c.self.inside.controls.items c.self.inside.agents.items c.args.node c.len.result c.in-Control.place c.self.view_is (omega (arith, c.len.ensures, c.self.inside.controls.ok.0)) c.in-Control.ensures.number c.in-Control.ensures.within c.requires.node c.index_mut.result.now c.leave_control.new.node c.index_mut.ensures.value
-
-pub returns-clause-who : goal.returns-clause-who
-returns-clause-who c =
-    of_both c.args.self.now c.self.inside.config c.self.inside.controls.items c.self.inside.agents.items c.args.node c.len.result c.in-Control.place c.self.view_is (omega (arith, c.len.ensures, c.self.inside.controls.ok.0)) c.in-Control.ensures.number c.in-Control.ensures.within c.requires.node c.index_mut.result.now c.leave_control.new.node c.index_mut.ensures.value
-    (λ n n'. OnOk c.leave_control.result (n'.who ≡ retired_of c.args.name.now n.who))
-    c.leave_control.ensures.who
-
-pub returns-clause-stays : goal.returns-clause-stays
-returns-clause-stays c =
-    of_both c.args.self.now c.self.inside.config c.self.inside.controls.items c.self.inside.agents.items c.args.node c.len.result c.in-Control.place c.self.view_is (omega (arith, c.len.ensures, c.self.inside.controls.ok.0)) c.in-Control.ensures.number c.in-Control.ensures.within c.requires.node c.index_mut.result.now c.leave_control.new.node c.index_mut.ensures.value
-    (λ n n'. OnErr c.leave_control.result (n'.who ≡ n.who))
-    (on_err_weaker c.leave_control.result (λ same. ap (λ (plan : ControlPlan). Controlling (controls_of plan)) same) c.leave_control.ensures.stays)
-
-pub returns-clause-long : goal.returns-clause-long
-returns-clause-long c =
-    of_both c.args.self.now c.self.inside.config c.self.inside.controls.items c.self.inside.agents.items c.args.node c.len.result c.in-Control.place c.self.view_is (omega (arith, c.len.ensures, c.self.inside.controls.ok.0)) c.in-Control.ensures.number c.in-Control.ensures.within c.requires.node c.index_mut.result.now c.leave_control.new.node c.index_mut.ensures.value
-    (λ n n'. length n'.posts ≡ length n.posts)
-    c.leave_control.ensures.long
-
-pub returns-clause-kept : goal.returns-clause-kept
-returns-clause-kept c =
-    of_both c.args.self.now c.self.inside.config c.self.inside.controls.items c.self.inside.agents.items c.args.node c.len.result c.in-Control.place c.self.view_is (omega (arith, c.len.ensures, c.self.inside.controls.ok.0)) c.in-Control.ensures.number c.in-Control.ensures.within c.requires.node c.index_mut.result.now c.leave_control.new.node c.index_mut.ensures.value
-    (λ n n'. length n'.kept ≡ length n.kept)
-    c.leave_control.ensures.kept
-
-pub returns-clause-leaves : goal.returns-clause-leaves
-returns-clause-leaves c =
-    of_both c.args.self.now c.self.inside.config c.self.inside.controls.items c.self.inside.agents.items c.args.node c.len.result c.in-Control.place c.self.view_is (omega (arith, c.len.ensures, c.self.inside.controls.ok.0)) c.in-Control.ensures.number c.in-Control.ensures.within c.requires.node c.index_mut.result.now c.leave_control.new.node c.index_mut.ensures.value
-    (λ n n'. IfOk c.leave_control.result (λ _. LeavesOver c.args.name.now c.args.session c.args.links.now c.leave_control.new.links n n'))
-    c.leave_control.ensures.leaves
+pub returns-clause-err : goal.returns-clause-err
+returns-clause-err c =
+    on_err_weaker c.leave_control.result (λ same. unchanged c.args.self.now c.self.inside.config c.self.inside.controls.items c.self.inside.agents.items c.args.node c.len.result c.in-Control.place c.self.view_is (omega (arith, c.len.ensures, c.self.inside.controls.ok.0)) c.in-Control.ensures.number c.in-Control.ensures.within c.requires.node c.index_mut.result.now c.leave_control.new.node c.index_mut.ensures.value same)
+    c.leave_control.ensures.err
 
 pub unreachable-requires : goal.unreachable-requires
 unreachable-requires c =

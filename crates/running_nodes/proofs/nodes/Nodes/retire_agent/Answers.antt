@@ -1,7 +1,7 @@
 use Rattle.std.proofs.Common.{ap}
 use Rattle.running_nodes.specs.Halves.{Standing}
 use Rattle.running_nodes.proofs.Seating.{alone_there}
-use Rattle.running_nodes.proofs.nodes.Nodes.remove_agent.Goals as goal
+use Rattle.running_nodes.proofs.nodes.Nodes.retire_agent.Goals as goal
 
 pub leave_at-requires-clause-alone : goal.leave_at-requires-clause-alone
 leave_at-requires-clause-alone c =

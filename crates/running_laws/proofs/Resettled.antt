@@ -1,6 +1,5 @@
--- A compute node moves. While it goes from one control node after the other, the seats are compared with those in which
--- it has gone from all of them and has come to those that it lists: what is there of its sessions does not matter, since
--- no other node reads it.
+-- A compute node moves: what is made of the seats, and of the network, before the control nodes that it listed make their
+-- passes.
 use Rattle.std.specs.Prelude.{List, map, cond}
 use Rattle.std.specs.declared.option.Option.{Option}
 use Rattle.std.specs.declared.option.Option.TheVariants.{Some, None}
@@ -10,7 +9,6 @@ use Rattle.schedule_script.specs.ConfigCheck.Checked.{Checked}
 use Rattle.schedule_script.specs.ConfigCheck.Edits as config_edits
 use Rattle.machine_laws.specs.MachineModel.Setup.{Move, Name, Setup, checked, id_of, moves, remade, renumbered}
 use Rattle.machine_laws.specs.MachineModel.Network.{MachineState, brought, replaced}
-use Rattle.machine_laws.specs.MachineModel.Steps.{pass}
 use Rattle.running_model.specs.Seats.{Seat, Configuring, seat}
 use Rattle.running_model.specs.Moving.{is_listed_who, joined, vacated}
 use Rattle.running_model.specs.Steps.{with_seat}
@@ -25,14 +23,14 @@ comes_to None s = s
 comes_to (Some n) s = cond (is_listed_who n s.who) (joined (id_of n) s) s
 
 -- one seat, once the agent has gone and come
-abbrev pub ghost : Name → Option Node → Seat → Seat
-ghost name now s = comes_to now (vacated name s)
+abbrev pub resettled_seat : Name → Option Node → Seat → Seat
+resettled_seat name now s = comes_to now (vacated name s)
 
 -- all of them, where the configuration node has what is valid then, and did nothing yet
-abbrev pub ghosts : Checked → Name → Option Node → List Seat → List Seat
-ghosts y name now seats =
-    with_seat 0 (record (seat (map (ghost name now) seats) 0) { who = Configuring y }) (map (ghost name now) seats)
+abbrev pub resettled_seats : Checked → Name → Option Node → List Seat → List Seat
+resettled_seats y name now seats =
+    with_seat 0 (record (seat (map (resettled_seat name now) seats) 0) { who = Configuring y }) (map (resettled_seat name now) seats)
 
--- the network whose sessions were replaced, and in which no control node has made its pass yet
+-- the network whose sessions were replaced
 abbrev pub resettled : Move → Setup → MachineState → MachineState
 resettled m y w = record { setup = y; sessions = replaced m.name (brought y.topology.controllers m.now) w.sessions }
