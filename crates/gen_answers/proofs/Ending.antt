@@ -17,7 +17,7 @@ use Rattle.net_machine.specs.RunningModel.Stands.{StandsFor}
 use Rattle.net_machine.specs.ScheduleLaws.Runs.{tied_moment}
 use Rattle.net_machine.proofs.ScheduleLaws.Placed.{as_compiled, isolated}
 use Rattle.run_ties.specs.Kept.{AreAlike, ties_in}
-use Rattle.machine_revocation_laws.proofs.Placed.{revoked}
+use Rattle.net_machine.proofs.MachineRevocationLaws.Placed.{revoked}
 use Rattle.scenario_gen.specs.Scenario.{scenario}
 use Rattle.gen_answers.specs.declared.tally.Tally.{Tally}
 use Rattle.gen_answers.specs.Answers.{IsLeftOfScenario, TookSummary}

@@ -11,7 +11,7 @@ use Rattle.net_machine.specs.Taken.{HasTaken}
 use Rattle.net_machine.specs.ScheduleLaws.TiedCompiled.{AreAsCompiled}
 use Rattle.net_machine.specs.ScheduleLaws.Isolated.{IsIsolated}
 use Rattle.net_machine.specs.ScheduleLaws.Runs.{answers}
-use Rattle.machine_revocation_laws.specs.Schedules.{IsRevoked}
+use Rattle.net_machine.specs.MachineRevocationLaws.Schedules.{IsRevoked}
 use Rattle.gen_answers.specs.Agreed.{PacketsAgree}
 use Rattle.gen_answers.specs.Scheduled.{opening, schedule}
 use Rattle.gen_answers.specs.Generating.{summary_text}

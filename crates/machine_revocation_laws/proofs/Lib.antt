@@ -20,3 +20,4 @@ pub mod Refusals
 pub mod Dropped
 pub mod Revoked
 pub mod Placed
+pub mod ScheduleLaws

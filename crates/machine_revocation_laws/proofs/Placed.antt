@@ -18,8 +18,8 @@ use Rattle.machine_model.specs.Events.{MachineEvent, Edits, Deliver, DeliverOcte
 use Rattle.machine_model.specs.Rounds.{is_unbroken}
 use Rattle.machine_laws.specs.Headline.{IsWritten}
 use Rattle.machine_laws.specs.Refusing.{TiedNetwork, after_tied, next_tied, tied_start}
-use Rattle.running_model.specs.Stands.{message_size}
-use Rattle.running_model.proofs.Sizes.{positive}
+use Rattle.schedule_laws.specs.RunningModel.Stands.{message_size}
+use Rattle.schedule_laws.proofs.RunningModel.Sizes.{positive}
 use Rattle.schedule_laws.specs.Runs.{answer_tied, answers, run_tied, tied_moment}
 use Rattle.schedule_laws.proofs.AsCompiled.{forms_of_front}
 use Rattle.schedule_laws.proofs.Kept.{asked_of_kept, kept, same_moment}

@@ -30,13 +30,13 @@ use Rattle.running_nodes.specs.RunningModel.Steps.{fresh_seat}
 use Rattle.running_laws.proofs.Given.{given}
 use Rattle.running_laws.proofs.Started.{fresh_seats_stand}
 use Rattle.schedule_tied_answers.specs.declared.answer.TiedAnswer.{TiedAnswer}
-use Rattle.schedule_laws.specs.TiedCompiled.{EndsAtOnce, IsAsCompiled}
-use Rattle.schedule_laws.specs.Isolated.{DeliversSoFar, DeliversTied}
+use Rattle.machine_revocation_laws.specs.ScheduleLaws.TiedCompiled.{EndsAtOnce, IsAsCompiled}
+use Rattle.machine_revocation_laws.specs.ScheduleLaws.Isolated.{DeliversSoFar, DeliversTied}
 use Rattle.machine_revocation_laws.specs.Schedules.{RevokedSoFar}
 use Rattle.machine_revocation_laws.proofs.Placed.{revoked_here}
-use Rattle.schedule_laws.specs.Runs.{answer_tied, tied_moment}
-use Rattle.schedule_laws.proofs.Kept.{asked_with_ties, tied_more}
-use Rattle.schedule_laws.proofs.Moments.{compiled_here, ends_here, isolated_here, joined_here}
+use Rattle.machine_revocation_laws.specs.ScheduleLaws.Runs.{answer_tied, tied_moment}
+use Rattle.machine_revocation_laws.proofs.ScheduleLaws.Kept.{asked_with_ties, tied_more}
+use Rattle.machine_revocation_laws.proofs.ScheduleLaws.Moments.{compiled_here, ends_here, isolated_here, joined_here}
 use Rattle.net_machine.specs.declared.ends.SessionEnds.{SessionEnds}
 use Rattle.net_machine.specs.Running.{IsRunning}
 use Rattle.net_machine.specs.Seating.{AreLong, AreSeated, IsConfigured, ends_of, order_among, order_of}

@@ -13,10 +13,10 @@ ghost use Rattle.running_nodes.specs.RunningModel.Seats.{whos};
 ghost use Rattle.running_nodes.specs.RunningModel.Stands.{StandsFor, message_size};
 ghost use Rattle.running_nodes.specs.RunningModel.Steps.{fresh_seat};
 ghost use Rattle.schedule_tied_answers.specs.Answers.{OfAnswer};
-ghost use Rattle.schedule_laws.specs.TiedCompiled.{EndsAtOnce, IsAsCompiled};
-ghost use Rattle.schedule_laws.specs.Isolated.{DeliversSoFar, DeliversTied};
+ghost use Rattle.machine_revocation_laws.specs.ScheduleLaws.TiedCompiled.{EndsAtOnce, IsAsCompiled};
+ghost use Rattle.machine_revocation_laws.specs.ScheduleLaws.Isolated.{DeliversSoFar, DeliversTied};
 ghost use Rattle.machine_revocation_laws.specs.Schedules.{RevokedSoFar};
-ghost use Rattle.schedule_laws.specs.Runs.{answer_tied, tied_moment};
+ghost use Rattle.machine_revocation_laws.specs.ScheduleLaws.Runs.{answer_tied, tied_moment};
 ghost use Rattle.net_machine.specs.Shown.{ShowsCompiled};
 ghost use Rattle.net_machine.specs.Tying.{OfTie};
 

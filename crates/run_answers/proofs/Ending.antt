@@ -17,7 +17,7 @@ use Rattle.net_machine.specs.NetState.{NetState}
 use Rattle.net_machine.specs.Taken.{HasTaken}
 use Rattle.net_machine.proofs.ScheduleLaws.Placed.{as_compiled, isolated}
 use Rattle.machine_model.specs.Setup.{opening as opening_setup}
-use Rattle.machine_revocation_laws.proofs.Placed.{revoked}
+use Rattle.net_machine.proofs.MachineRevocationLaws.Placed.{revoked}
 use Rattle.run_answers.specs.Networks.{AreReadAs, IsLeftOf, TookAnswers, input_of}
 use Rattle.run_answers.specs.Schedules.{run_text}
 

@@ -15,7 +15,7 @@ use Rattle.ov_json.specs.Json.{json_of}
 use Rattle.net_machine.specs.ScheduleLaws.TiedCompiled.{AreAsCompiled}
 use Rattle.net_machine.specs.ScheduleLaws.Isolated.{IsIsolated}
 use Rattle.net_machine.specs.ScheduleLaws.Runs.{answers}
-use Rattle.machine_revocation_laws.specs.Schedules.{IsRevoked}
+use Rattle.net_machine.specs.MachineRevocationLaws.Schedules.{IsRevoked}
 use Rattle.run_answers.specs.Schedules.{run_text}
 
 -- the opening configuration of an input, with its topology

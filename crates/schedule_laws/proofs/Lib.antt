@@ -4,3 +4,4 @@ mod Promising
 pub mod Kept
 pub mod Moments
 pub mod Placed
+pub mod RunningModel

@@ -4,3 +4,4 @@ pub mod Compiled
 pub mod Runs
 pub mod Isolated
 pub mod TiedCompiled
+pub mod RunningModel
