@@ -1,12 +1,11 @@
 -- What the words of the command line ask of the program itself.
-use Rattle.std.specs.Prelude.{◌≡◌, ℕ, ◌||◌, List, [], ◌∷◌, codes, nat_eq, Some}
+use Rattle.std.specs.Prelude.{◌≡◌, ℕ, ◌||◌, List, [], ◌∷◌, codes, is_some, nat_eq, true}
 use Rattle.std.specs.Prelude.{String, string_bytes, if◌then◌else◌}
 use Rattle.std.specs.declared.alloc.Global.{Global}
 use Rattle.std.specs.Cmp.Lexicographic.{pointwise}
 use Rattle.decode_answers.specs.Decoding.{is_blank}
 use Rattle.explanations.specs.Digits as people
 use Rattle.top_call.specs.Commands.{command_of}
-use Rattle.top_call.specs.declared.command.Command.{Command}
 use Rattle.overlay.specs.declared.Request.{Request}
 use Rattle.overlay.specs.declared.Request.TheVariants as request
 
@@ -24,8 +23,7 @@ request_of (word ∷ other ∷ words) = request.Run
 
 -- words that are a command ask nothing of the program itself
 abbrev pub CommandsAreNoRequests : Type 0
-CommandsAreNoRequests =
-    (words : List (String Global)) (command : Command) → command_of words ≡ Some command → request_of words ≡ request.Run
+CommandsAreNoRequests = (words : List (String Global)) → is_some (command_of words) ≡ true → request_of words ≡ request.Run
 
 -- a blank of `decode` is one of what people are told of digits
 abbrev pub BlanksAreOne : Type 0
