@@ -1,0 +1,35 @@
+-- What the words of the command line ask of the program itself, and which file they name.
+use Rattle.std.specs.Prelude.{◌≡◌, IsSome, ℕ, ◌||◌, List, [], ◌∷◌, codes, nat_eq, Option, Some, None}
+use Rattle.std.specs.Prelude.{String, string_bytes, if◌then◌else◌}
+use Rattle.inspect_answers.specs.Commands.{asked_of}
+use Rattle.inspect_answers.specs.declared.asked.Asked.{Asked}
+use Rattle.std.specs.declared.alloc.Global.{Global}
+use Rattle.std.specs.Cmp.Lexicographic.{pointwise}
+use Rattle.inspect.specs.declared.Request.{Request}
+use Rattle.inspect.specs.declared.Request.TheVariants as request
+
+-- what a word asks of the program itself, and not of a command
+abbrev pub request_named : List ℕ → Request
+request_named word =
+    if pointwise nat_eq word (codes "--help") || pointwise nat_eq word (codes "-h") then request.Help
+    else (if pointwise nat_eq word (codes "--version") then request.Version else request.Run)
+
+-- what words ask of the program itself: one word, alone
+abbrev pub request_of : List (String Global) → Request
+request_of [] = request.Run
+request_of (word ∷ []) = request_named (string_bytes word)
+request_of (word ∷ other ∷ words) = request.Run
+
+-- the file is named by the second word
+abbrev pub file_of : List (String Global) → Option (List ℕ)
+file_of [] = None
+file_of (command ∷ []) = None
+file_of (command ∷ file ∷ words) = Some (string_bytes file)
+
+-- words that are a command ask nothing of the program itself
+abbrev pub CommandsAreNoRequests : Type 0
+CommandsAreNoRequests = (words : List (String Global)) (asked : Asked) → asked_of words ≡ Some asked → request_of words ≡ request.Run
+
+-- and name a file
+abbrev pub CommandsNameFiles : Type 0
+CommandsNameFiles = (words : List (String Global)) (asked : Asked) → asked_of words ≡ Some asked → IsSome (file_of words)

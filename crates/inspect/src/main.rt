@@ -1,0 +1,217 @@
+//! The program `inspect`: exact answers about all packets at once, of a configuration that is given as a file.
+#![tactic(auto)]
+
+ghost use Rattle.std.specs.Prelude.{◌≡◌, ◌≢◌, ◌↔◌, ◌⊎◌, None, option_copied};
+ghost use Rattle.std.specs.IoError.{error_kind};
+ghost use Rattle.std.specs.declared.io.ErrorKind.TheVariants.{OutOfMemory};
+ghost use Rattle.std.specs.Process.{exit_status};
+ghost use Rattle.inspect.specs.Requests.{file_of, request_named, request_of};
+ghost use Rattle.inspect_answers.specs.Runs.{number_of};
+
+mod laws;
+mod sentence;
+
+use explanations::{
+    Advice, Explanation, FrontSink, HeardSource, KeptInput, explain_form, explain_refusal,
+    explain_stop,
+};
+use inspect_answers::{Status, asked_of, inspect};
+use ov_io::{StdSink, StdSource};
+use sentence::Sentence;
+use std::alloc::Global;
+use std::env::Env;
+use std::fmt::Display;
+use std::io::Read;
+use std::process::ExitCode;
+use std::{env, fs, io};
+
+const VERSION: &str = "inspect 0.1.0\n";
+
+const USAGE: &str = "usage: inspect COMMAND, where a FILE of - is standard input:
+  ways FILE            what is let through from each network to each other, by which rule and through which services
+  ways FILE FROM TO    the same from one network to one other
+  --help               this text; so does -h
+  --version            the version
+";
+
+const STATUSES: &str =
+    "exit status; from 3 on standard error has a sentence for people, at 2 the usage:
+  0  done: all was read, and all is written
+  2  the words are no command
+  3  the file could not be opened or read
+  4  the input has more than 16,777,216 octets
+  5  the input is no JSON; the line is `not json`
+  6  the document breaks the form; the line is `bad document PATH KIND`
+  7  the configuration breaks a rule, or has no network of a name that is asked for; the line is `refused` and which
+  8  standard output could not be written
+  9  there was no memory
+A document is what `overlay compile` takes; docs/FORMATS.md has its form, and that of the lines.
+";
+
+/// What is asked of `main` itself, before the top call.
+#[derive(Clone, Copy, PartialEq, Eq)]
+enum Request {
+    Help,
+    Version,
+    Run,
+}
+
+/// What the words after the program's name ask of `main`.
+fn request_of(words: &[String]) -> Request
+    ensures { result ≡ request_of words.now }
+{
+    match words {
+        [word] => request_named(word.as_str()),
+        _ => Request::Run,
+    }
+}
+
+fn request_named(word: &str) -> Request
+    ensures { result ≡ request_named word.now }
+{
+    match word {
+        "--help" | "-h" => Request::Help,
+        "--version" => Request::Version,
+        _ => Request::Run,
+    }
+}
+
+/// The words after the program's name.
+fn words_of<R: Env + AllocGlobal>(rt: &R) -> io::Result<Vec<String>> {
+    let mut words = Vec::new(rt.alloc());
+    for word in env::args(rt)?.skip(1) {
+        words.push(word)?;
+    }
+    Ok(words)
+}
+
+/// The file that the words name.
+fn file_of(words: &[String]) -> Option<&str>
+    ensures { option_copied result ≡ file_of words.now }
+{
+    match words {
+        [_, file, ..] => Some(file.as_str()),
+        _ => None,
+    }
+}
+
+/// The status where a call of the system was refused: there is no memory for what it gives, or what it was given is at
+/// fault.
+fn status_by(error: &io::Error, otherwise: Status) -> Status
+    ensures no_memory { error_kind error.now ≡ OutOfMemory → result ≡ Status.NoMemory }
+    ensures otherwise { error_kind error.now ≢ OutOfMemory → result ≡ otherwise }
+{
+    match error.kind() {
+        io::ErrorKind::OutOfMemory => Status::NoMemory,
+        _ => otherwise,
+    }
+}
+
+/// Prints to standard output, and says how that ended.
+fn printed<D: Display + Drop>(rt: &impl Print, text: D) -> Status
+    ensures { (result ≡ Status.Done) ⊎ (result ≡ Status.WriteFault) }
+{
+    match rt.print(text) {
+        Ok(()) => Status::Done,
+        Err(_) => Status::WriteFault,
+    }
+}
+
+/// What is said to people of a run that ended so, by the front of what it wrote and by what was kept of its input. Where
+/// it was given no command the usage is printed in place of it, and a file that could not be read has its own line.
+fn explanation<'a>(
+    alloc: Global,
+    status: Status,
+    front: &'a [u8],
+    heard: &KeptInput,
+) -> Option<Explanation<'a>>
+    ensures { (result ≡ None) ↔ ((status ≡ Status.Done) ⊎ (status ≡ Status.Usage) ⊎ (status ≡ Status.ReadFault)) }
+{
+    match status {
+        Status::Done | Status::Usage | Status::ReadFault => None,
+        Status::TooLong => Some(Explanation::Advice(Advice::TooLong)),
+        Status::NotJson => Some(explain_stop(alloc, heard)),
+        Status::BadDocument => Some(explain_form(front)),
+        Status::Refused => Some(explain_refusal(front)),
+        Status::WriteFault => Some(Explanation::Advice(Advice::WriteFault)),
+        Status::NoMemory => Some(Explanation::Advice(Advice::NoMemory)),
+    }
+}
+
+/// Says to people on standard error how a run over a file ended. A fault there changes nothing.
+fn say(rt: &HostRuntime, file: &str, status: Status, front: &[u8], heard: &KeptInput) {
+    if status == Status::Usage {
+        let _ = rt.eprint(USAGE);
+    }
+    if status == Status::ReadFault {
+        let _ = rt.eprint(format_args!("inspect: {file}: it could not be opened or read\n"));
+    }
+    if let Some(said) = explanation(rt.alloc(), status, front, heard) {
+        let _ = rt.eprint(Sentence { file, said });
+    }
+}
+
+/// Runs the top call over an open file and standard output, and says to people how it ended.
+fn answer<R: Read + Drop>(rt: &HostRuntime, words: &[String], file: &str, reader: R) -> Status {
+    let kept = KeptInput::Document(Vec::new(rt.alloc()));
+    let mut source = HeardSource::new(StdSource::new(reader), kept);
+    let mut sink = FrontSink::new(StdSink::new(rt.stdout()));
+    let status = inspect(rt.alloc(), words, &mut source, &mut sink);
+    say(rt, file, status, sink.front(), source.heard());
+    status
+}
+
+/// Ends a run over a file that had no answer, and says so to people.
+fn end(rt: &HostRuntime, file: &str, status: Status) -> Status {
+    say(rt, file, status, &[], &KeptInput::Nothing);
+    status
+}
+
+/// Opens the file that the words name, and answers them.
+fn run(rt: &HostRuntime, words: &[String]) -> Status {
+    let Some(file) = file_of(words) else {
+        return end(rt, "-", Status::Usage);
+    };
+    if asked_of(words).is_none() {
+        return end(rt, file, Status::Usage);
+    }
+    if file == "-" {
+        return answer(rt, words, file, rt.stdin());
+    }
+    match fs::open(rt, file) {
+        Ok(reader) => answer(rt, words, file, reader),
+        Err(error) => end(rt, file, status_by(&error, Status::ReadFault)),
+    }
+}
+
+/// Prints what is asked of `main` itself, and says to people how that ended.
+fn tell<D: Display + Drop>(rt: &HostRuntime, text: D) -> Status {
+    end(rt, "-", printed(rt, text))
+}
+
+/// Prints the help.
+fn help(rt: &HostRuntime) -> Status {
+    match printed(rt, USAGE) {
+        Status::Done => tell(rt, STATUSES),
+        status => end(rt, "-", status),
+    }
+}
+
+/// The exit status that tells how the run ended.
+fn code_of(status: Status) -> ExitCode
+    ensures { exit_status result ≡ number_of status }
+{
+    ExitCode::from(status.number())
+}
+
+fn main(rt: HostRuntime) -> ExitCode {
+    let status = match words_of(&rt) {
+        Ok(words) => match request_of(words.as_slice()) {
+            Request::Help => help(&rt),
+            Request::Version => tell(&rt, VERSION),
+            Request::Run => run(&rt, words.as_slice()),
+        },
+        Err(error) => end(&rt, "-", status_by(&error, Status::Usage)),
+    };
+    code_of(status)
+}

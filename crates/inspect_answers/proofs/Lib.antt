@@ -1,0 +1,3 @@
+mod Unfitting
+mod Exact
+mod Told

@@ -1,0 +1,137 @@
+//! Writing the ways: each line is made, and handed on where enough is gathered.
+ghost use Rattle.std.specs.Prelude.{◌≡◌, ◌++◌, [], flat_map, OnOk, OnErr};
+ghost use Rattle.std.specs.Io.KnownBytes.{Appends};
+ghost use Rattle.ov_io.specs.Inputs.{TookFront};
+ghost use Rattle.ov_io.specs.Pieces.{HasWriteCause, IsOnItsWay};
+ghost use Rattle.inspect_answers.specs.Lines.{between_text, is_asked, network_text, pair_text, way_line, ways_text};
+
+use crate::asked::Asked;
+use crate::lines::WayLines;
+use crate::way::Way;
+use crate::ways::ways_between;
+use compile_answers::write_one;
+use config_check::Valid;
+use config_types::Network;
+use ov_io::{Sink, TextOut, WriteRefusal, write_gathered};
+use std::alloc::Global;
+
+/// Hands on the line of each way, in order.
+fn write_ways<K: Sink>(
+    alloc: Global,
+    lines: &WayLines,
+    ways: &[Way],
+    sink: &mut K,
+    gathered: &mut TextOut,
+) -> Result<(), WriteRefusal>
+    ensures ok { OnOk result (IsOnItsWay (K.taken sink.old) (K.taken sink.new) gathered.new []
+        (gathered.old ++ flat_map (way_line lines.now.from lines.now.to) ways.now)) }
+    ensures front { OnErr result (TookFront (K.taken sink.old) (K.taken sink.new)
+        (gathered.old ++ flat_map (way_line lines.now.from lines.now.to) ways.now)) }
+    ensures cause { HasWriteCause (K.faults sink.old) (K.faults sink.new) result }
+{
+    for way in ways {
+        write_one(alloc, lines, way, sink, gathered)?;
+    }
+    Ok(())
+}
+
+/// Hands on the lines of the ways from one network to another.
+#[tactic(auto, using(ov_io::proofs::PieceLemmas::took_nothing))]
+fn write_between<K: Sink>(
+    alloc: Global,
+    valid: &Valid,
+    from: &Network,
+    to: &Network,
+    sink: &mut K,
+    gathered: &mut TextOut,
+) -> Result<(), WriteRefusal>
+    ensures ok { OnOk result (IsOnItsWay (K.taken sink.old) (K.taken sink.new) gathered.new []
+        (gathered.old ++ between_text valid.now.config from.now to.now)) }
+    ensures front { OnErr result (TookFront (K.taken sink.old) (K.taken sink.new)
+        (gathered.old ++ between_text valid.now.config from.now to.now)) }
+    ensures cause { HasWriteCause (K.faults sink.old) (K.faults sink.new) result }
+{
+    let ways = ways_between(alloc, valid, from, to)?;
+    let lines = WayLines {
+        from: from.name,
+        to: to.name,
+    };
+    write_ways(alloc, &lines, ways.as_slice(), sink, gathered)
+}
+
+fn is_asked(asked: &Asked, from: &Network, to: &Network) -> bool
+    ensures { result ≡ is_asked asked.now from.now to.now }
+{
+    match asked {
+        Asked::All => from.name != to.name,
+        Asked::Between {
+            from: source,
+            to: destination,
+        } => from.name == *source && to.name == *destination,
+    }
+}
+
+/// Hands on the lines of the ways from one network to another, where these are asked for.
+#[tactic(auto, using(ov_io::proofs::PieceLemmas::way_stays))]
+fn write_pair<K: Sink>(
+    alloc: Global,
+    asked: &Asked,
+    valid: &Valid,
+    from: &Network,
+    to: &Network,
+    sink: &mut K,
+    gathered: &mut TextOut,
+) -> Result<(), WriteRefusal>
+    ensures ok { OnOk result (IsOnItsWay (K.taken sink.old) (K.taken sink.new) gathered.new []
+        (gathered.old ++ pair_text asked.now valid.now.config from.now to.now)) }
+    ensures front { OnErr result (TookFront (K.taken sink.old) (K.taken sink.new)
+        (gathered.old ++ pair_text asked.now valid.now.config from.now to.now)) }
+    ensures cause { HasWriteCause (K.faults sink.old) (K.faults sink.new) result }
+{
+    if is_asked(asked, from, to) {
+        return write_between(alloc, valid, from, to, sink, gathered);
+    }
+    Ok(())
+}
+
+/// Hands on the lines of the ways from one network to each of others, in order.
+fn write_network<K: Sink>(
+    alloc: Global,
+    asked: &Asked,
+    valid: &Valid,
+    from: &Network,
+    others: &[Network],
+    sink: &mut K,
+    gathered: &mut TextOut,
+) -> Result<(), WriteRefusal>
+    ensures ok { OnOk result (IsOnItsWay (K.taken sink.old) (K.taken sink.new) gathered.new []
+        (gathered.old ++ flat_map (pair_text asked.now valid.now.config from.now) others.now)) }
+    ensures front { OnErr result (TookFront (K.taken sink.old) (K.taken sink.new)
+        (gathered.old ++ flat_map (pair_text asked.now valid.now.config from.now) others.now)) }
+    ensures cause { HasWriteCause (K.faults sink.old) (K.faults sink.new) result }
+{
+    for to in others {
+        write_pair(alloc, asked, valid, from, to, sink, gathered)?;
+    }
+    Ok(())
+}
+
+/// Writes the ways that are asked for of a valid configuration.
+#[tactic(auto, unfolding(crate::specs::Lines::ways_text))]
+pub(crate) fn write_asked<K: Sink>(
+    alloc: Global,
+    asked: &Asked,
+    valid: &Valid,
+    sink: &mut K,
+) -> Result<(), WriteRefusal>
+    ensures ok { OnOk result (Appends (K.taken sink.old) (K.taken sink.new) (ways_text asked.now valid.now.config)) }
+    ensures front { OnErr result (TookFront (K.taken sink.old) (K.taken sink.new) (ways_text asked.now valid.now.config)) }
+    ensures cause { HasWriteCause (K.faults sink.old) (K.faults sink.new) result }
+{
+    let networks = valid.config().networks.as_slice();
+    let mut gathered = TextOut::new(alloc);
+    for from in networks {
+        write_network(alloc, asked, valid, from, networks, sink, &mut gathered)?;
+    }
+    write_gathered(sink, &mut gathered)
+}

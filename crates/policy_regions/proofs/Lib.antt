@@ -1,0 +1,9 @@
+pub mod Cuts
+pub mod Decided
+pub mod Held
+pub mod Boxes
+pub mod Kept
+pub mod Orders
+pub mod Overlaid
+pub mod Sorting
+pub mod Turns
