@@ -1,5 +1,5 @@
 -- Octets that put or drop some routes alone, and ends that are told all.
-use Rattle.std.specs.Prelude.{◌≡◌, ◌<◌, ◌≤◌, ℕ, zero, suc, List, [], ◌∷◌, map, length, Bool, true, false, cond, is_some, nat_lt, take, ◌==◌, ◌||◌}
+use Rattle.std.specs.Prelude.{◌≡◌, ◌<◌, ◌≤◌, ℕ, zero, suc, List, [], ◌∷◌, map, length, Bool, true, false, cond, is_some, nat_lt, take, ◌==◌, ◌||◌, get_or}
 use Rattle.std.specs.declared.option.Option.{Option}
 use Rattle.std.specs.declared.option.Option.TheVariants.{Some, None}
 use Rattle.std.specs.declared.result.Result.{Result}
@@ -7,12 +7,13 @@ use Rattle.std.specs.declared.result.Result.TheVariants.{Ok, Err}
 use Rattle.std.specs.Option.{IfSome}
 use Rattle.std.specs.Result.{IfOk}
 use Rattle.std.specs.FinMap.{get}
-use Rattle.std.specs.List.{slice_index_or, filter_map, list_any}
+use Rattle.std.specs.List.{cons_option, slice_index_or, filter_map, list_any}
 use Rattle.std.proofs.Common.{refl, sym, ◌∙◌, ap, subst, set, arith}
-use Rattle.std.proofs.lemmas.Bool.{ltb-true}
+use Rattle.std.proofs.lemmas.Bool.{ltb-true, true≢false}
 use Rattle.std.proofs.lemmas.List.{get_or-map, get_or_past, length-set}
 use Rattle.ov_sync.specs.Keyed.{after}
 use Rattle.ov_sync.proofs.KeyedLaws.{difference-itself}
+use Rattle.ov_types.specs.declared.numbers.InstanceId.{InstanceId}
 use Rattle.ov_types.specs.declared.objects.LowKey.{LowKey}
 use Rattle.ov_types.specs.declared.objects.LowValue.{LowValue}
 use Rattle.ov_types.specs.declared.rows.AgentRows.{AgentRows}
@@ -23,17 +24,21 @@ use Rattle.node_items.specs.Beginning.{phase_of}
 use Rattle.node_items.specs.Told.{change_of, down_of, spelled, up_of}
 use Rattle.node_laws.specs.Stepped.{AreTold, HoldTheSame}
 use Rattle.node_laws.proofs.AtTheEnd.{seen_alike}
-use Rattle.node_core.specs.NodeModel.Agent.{Holdings, acl_entry, attached, needed_by, slice_in_use, told_of as told_by}
+use Rattle.node_core.specs.NodeModel.Agent.{Holdings, acl_entry, attached, is_needed, needed_by, slice_in_use, told_of as told_by, wanted as wanted_of}
 use Rattle.node_core.specs.NodeModel.Keys.{Row}
 use Rattle.node_core.specs.NodeModel.Maps.{Change, Map, difference, objects}
 use Rattle.node_core.specs.NodeModel.Step.{Post, nothing, post}
 use Rattle.node_core.specs.NodeModel.Values.{same_value}
 use Rattle.node_core.proofs.NodeModel.Alike.{same_value_decides}
+use Rattle.node_core.proofs.NodeModel.Members.{none_some}
+use Rattle.agent_tables.specs.Listed.{HaveSame, SameBut, list_between, list_key}
 use Rattle.agent_tables.specs.Touched.{AgreeBut, AreTables, RowKey, SameRoutes, Tabled, route_key}
 use Rattle.agent_tables.specs.Views.{heard_of, is_up as is_heard_up}
 use Rattle.agent_tables.specs.declared.hearing.Hearing.{Hearing}
 use Rattle.agent_tables.proofs.Touched.{MapsAgreeBut, all_changed, all_stay, objects_set, same_slice, session_changed, session_stays}
-use Rattle.agent_node.specs.Applying.{AreLed, HasKeptRoutes, HasLed, HaveKeptRoutes, HaveKeptSlice, is_in_use}
+use Rattle.agent_tables.proofs.Held.{MapsSameBut, list_changed, session_listed}
+use Rattle.agent_tables.proofs.Listed.{wanted_same}
+use Rattle.agent_node.specs.Applying.{AreLed, AreListed, HasKeptRoutes, HasLed, HasListed, HaveKeptRoutes, HaveKeptSlice, Networks, is_in_use}
 use Rattle.agent_node.specs.Core.{heard_at, holdings, is_up, kind, may_send, wanted}
 use Rattle.agent_node.specs.Ends.{AreEnds, Sent, end_at, posts_of}
 use Rattle.agent_node.specs.Planning.{AreSilent, sent_at}
@@ -58,6 +63,10 @@ pub if_ok : {A E : Type 0} (P Q : A → Type 0) (r : Result A E) → ((x : A) �
 if_ok P Q (Ok x) f h = f x h
 if_ok P Q (Err e) f h = tt
 
+pub by_either : {T : Type 0} (b c : Bool) → (b || c) ≡ true → (b ≡ true → T) → (c ≡ true → T) → T
+by_either true c e f g = f refl
+by_either false c e f g = g e
+
 -- ---- one end
 pub has_led : (h h' : Hearing) (items : List Item) (keys : List RowKey) → h'.session.state ≡ h.session.state
     → map (λ i. route_key (change_of i)) items ≡ map Some keys
@@ -74,6 +83,28 @@ has_kept_routes h h' items state none held = record {
   state = state;
   rows_same = λ k. all_stay items (down_of h.held) none k ∙ ap (λ (m : Map). get m (Row k.0 k.1)) (sym held);
 }
+
+-- one record that puts or drops an access list
+abbrev is_more : {A : Type 0} → List A → Bool
+is_more (x ∷ y ∷ l) = true
+is_more l = false
+
+one_listed : (items : List Item) (m : Map) (n : Networks) → map (λ i. list_key (change_of i)) items ≡ Some n ∷ []
+    → MapsSameBut (list_between n) m (after m (filter_map change_of items))
+one_listed [] m n e = absurd (none_some n (ap (λ (l : List (Option Networks)). get_or l 0 None) e))
+one_listed (i ∷ j ∷ items) m n e = absurd (true≢false (ap (λ (l : List (Option Networks)). is_more l) e))
+one_listed (i ∷ []) m n e =
+    elim (change_of i) as (λ o. list_key o ≡ Some n → MapsSameBut (list_between n) m (after m (cons_option o []))) [
+      | None ↦ λ s. absurd (none_some n s)
+      | Some c ↦ λ s. list_changed m c n s
+    ] (ap (λ (l : List (Option Networks)). get_or l 0 None) e)
+
+pub has_listed : (h h' : Hearing) (items : List Item) (n : Networks) → h'.session.state ≡ h.session.state
+    → map (λ i. list_key (change_of i)) items ≡ Some n ∷ []
+    → down_of h'.held ≡ after (down_of h.held) (filter_map change_of items) → HasListed n h h'
+has_listed h h' items n state e held =
+    let but = subst (MapsSameBut (list_between n) (down_of h.held)) (sym held) (one_listed items (down_of h.held) n e) in
+    record { state = state; objects_same = but.objects_same; rows_same = but.rows_same }
 
 map_set : (hs : List Hearing) (i : ℕ) (h : Hearing) → map heard_of (set hs i h) ≡ set (map heard_of hs) i (heard_of h)
 map_set [] i h = refl
@@ -113,6 +144,19 @@ module _ (plan : AgentPlan) (hs : List Hearing) (ss : List Sent) (ends : AreEnds
         left = held_alone t.state;
         agree = subst (λ (p : Holdings × Holdings). AgreeBut keys p.0 p.1)
             (λ j. (sym (holdings_as hs ss) j, (sym (map_set hs i h') ∙ sym (holdings_as (set hs i h') ss)) j)) agree;
+      }
+
+  pub are_listed : (n : Networks) → HasListed n h h' → AreListed n i (posts_of hs ss) (posts_of (set hs i h') ss)
+  are_listed n t =
+      let same : SameBut (list_between n) (map heard_of hs) (set (map heard_of hs) i (heard_of h')) =
+      session_listed (map heard_of hs) i (heard_of h) (heard_of h') (list_between n)
+      (λ d. get_or-map heard_of hs i h d lt ∙ ap heard_of (sym is)) (ap is_heard_up t.state)
+      (record { objects_same = t.objects_same; rows_same = t.rows_same }) in
+      record {
+        held = down_of h'.held;
+        left = held_alone t.state;
+        same = subst (λ (p : Holdings × Holdings). SameBut (list_between n) p.0 p.1)
+            (λ j. (sym (holdings_as hs ss) j, (sym (map_set hs i h') ∙ sym (holdings_as (set hs i h') ss)) j)) same;
       }
 
   pub routes_kept : HasKeptRoutes h h' → HaveKeptRoutes i (posts_of hs ss) (posts_of (set hs i h') ss)
@@ -198,17 +242,44 @@ same_at (p ∷ posts) zero m (suc j) = (refl, refl)
 same_at (p ∷ posts) (suc s) m zero = (refl, refl)
 same_at (p ∷ posts) (suc s) m (suc j) = same_at posts s m j
 
-pub told_kept : (s : ℕ) (posts posts' : List Post) (held : Map)
+pub told_same : (s : ℕ) (posts posts' : List Post) (held : Map)
     → posts' ≡ set posts s (record (post posts s) { held = held })
-    → slice_in_use (holdings posts) ≡ slice_in_use (holdings posts') → AreTold kind posts → AreTold kind posts'
-told_kept s posts posts' held left slice told j lt may =
+    → wanted_of (holdings posts) ≡ wanted_of (holdings posts') → AreTold kind posts → AreTold kind posts'
+told_same s posts posts' held left wants told j lt may =
     let at : (j : ℕ) → ((post posts' j).phase ≡ (post posts j).phase) × ((post posts' j).sent ≡ (post posts j).sent) =
     λ j. subst (λ (ps : List Post). ((post ps j).phase ≡ (post posts j).phase) × ((post ps j).sent ≡ (post posts j).sent))
     (sym left) (same_at posts s held j) in
     let long : length posts' ≡ length posts = ap length left ∙ length-set posts s (record (post posts s) { held = held }) in
     (at j).1
     ∙ told j (subst (λ n. j < n) long lt) (ap (may_send j) (sym (at j).0) ∙ may)
-    ∙ ap told_by slice
+    ∙ wants
+
+pub told_kept : (s : ℕ) (posts posts' : List Post) (held : Map)
+    → posts' ≡ set posts s (record (post posts s) { held = held })
+    → slice_in_use (holdings posts) ≡ slice_in_use (holdings posts') → AreTold kind posts → AreTold kind posts'
+told_kept s posts posts' held left slice = told_same s posts posts' held left (ap told_by slice)
+
+-- ---- one access list that changed
+abbrev pub NeedsStay : List Post → Tabled → Networks → Type 0
+NeedsStay posts t n = (before : Holdings) → AreTables before t → SameBut (list_between n) before (holdings posts)
+    → (i : InstanceId) → is_needed before i ≡ is_needed (holdings posts) i
+
+module _ (s : ℕ) (posts posts' : List Post) (t : Tabled) (list : Option Networks)
+    (listed : IfSome list (λ n. AreListed n s posts posts')) (current : Bool) (are : current ≡ true → AreTables (holdings posts) t) where
+  pub have_same : (kept : Option Networks) → IfSome kept (λ n. list ≡ Some n) → IfSome kept (λ n. current ≡ true)
+      → IfSome kept (NeedsStay posts' t) → IfSome kept (λ n. HaveSame (list_between n) (holdings posts') t)
+  have_same None is on needs = tt
+  have_same (Some n) is on needs =
+      let l = of_some (λ n. AreListed n s posts posts') list n is listed in
+      record { before = holdings posts; same = l.same; needs = needs (holdings posts) (are on) l.same; are = are on }
+
+  pub told_listed : (kept : Option Networks) → IfSome kept (λ n. list ≡ Some n) → IfSome kept (λ n. current ≡ true)
+      → IfSome kept (NeedsStay posts' t) → is_some kept ≡ true → AreTold kind posts → AreTold kind posts'
+  told_listed None is on needs some told = absurd (true≢false (sym some))
+  told_listed (Some n) is on needs some told =
+      let l = of_some (λ n. AreListed n s posts posts') list n is listed in
+      told_same s posts posts' l.held l.left
+      (wanted_same (list_between n) refl (holdings posts) (holdings posts') l.same (needs (holdings posts) (are on) l.same)) told
 
 pub told_on : (keys : List RowKey) (s : ℕ) (posts posts' : List Post) → AreLed keys s posts posts' → AreTold kind posts
     → AreTold kind posts'

@@ -1,8 +1,12 @@
 -- What octets make of what is held at an end.
 use Rattle.std.specs.Prelude.{◌≡◌, ℕ, zero, suc, List, [], ◌∷◌, Bool, Option, Some, None, false, if◌then◌else◌}
-use Rattle.std.specs.FinMap.{get}
+use Rattle.std.specs.FinMap.{find, get}
 use Rattle.std.specs.List.{filter_map, slice_set}
+use Rattle.std.specs.Ordering.{eq_by_cmp}
 use Rattle.ov_sync.specs.Keyed.{after, changed}
+use Rattle.ov_types.specs.Keys.{low_key_cmp}
+use Rattle.ov_types.specs.declared.numbers.InstanceId.{InstanceId}
+use Rattle.ov_types.specs.declared.objects.LowKey.{LowKey}
 use Rattle.item_wire.specs.declared.event.ItemCause.{ItemCause}
 use Rattle.item_wire.specs.declared.input.Came.{Came}
 use Rattle.node_items.specs.Hearing.{heard}
@@ -13,6 +17,7 @@ use Rattle.node_core.specs.NodeModel.Keys.{Row}
 use Rattle.node_core.specs.NodeModel.Maps.{Change, Map, objects}
 use Rattle.node_core.specs.NodeModel.Step.{Post, post}
 use Rattle.node_core.specs.NodeModel.Agent.{slice_in_use}
+use Rattle.agent_tables.specs.Listed.{SameBut, list_between}
 use Rattle.agent_tables.specs.Touched.{AgreeBut, RowKey, SameRoutes, is_among}
 use Rattle.agent_tables.specs.declared.hearing.Hearing.{Hearing}
 use Rattle.agent_node.specs.Beginning.{session_at}
@@ -61,6 +66,23 @@ pub record HaveKeptRoutes (session : ℕ) (posts posts' : List Post) : Type 0 wh
   pub held : Map
   pub left : posts' ≡ slice_set posts session (record (post posts session) { held = held })
   pub same : SameRoutes (holdings posts) (holdings posts')
+
+-- ---- octets that put or drop one access list, and do nothing else
+abbrev pub Networks : Type 0
+Networks = InstanceId × InstanceId
+
+-- an end is in the same state, and holds the same but for the access list between two networks
+pub record HasListed (n : Networks) (h h' : Hearing) : Type 0 where
+  pub state : h'.session.state ≡ h.session.state
+  pub objects_same : (q : LowKey) → eq_by_cmp low_key_cmp q (list_between n) ≡ false
+      → find low_key_cmp q (objects (down_of h.held)) ≡ find low_key_cmp q (objects (down_of h'.held))
+  pub rows_same : (k : RowKey) → get (down_of h.held) (Row k.0 k.1) ≡ get (down_of h'.held) (Row k.0 k.1)
+
+-- of all ends that of the session alone holds something else, and that the same but for this access list
+pub record AreListed (n : Networks) (session : ℕ) (posts posts' : List Post) : Type 0 where
+  pub held : Map
+  pub left : posts' ≡ slice_set posts session (record (post posts session) { held = held })
+  pub same : SameBut (list_between n) (holdings posts) (holdings posts')
 
 -- ---- octets of a session whose slice is not in use
 -- the slice of a session is in use: it is up, and none before it

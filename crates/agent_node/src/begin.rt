@@ -1,6 +1,6 @@
 //! What an input makes of the end of its session.
 ghost use Rattle.std.specs.Prelude.{◌≡◌, ◌<◌, ◌≤◌, ◌∷◌, [], IfOk, IfSome, IsTrue, OnOk, drop, length, map, slice_set};
-ghost use Rattle.std.specs.Prelude.{Some, is_some, true, false};
+ghost use Rattle.std.specs.Prelude.{None, Some, is_some, true, false};
 ghost use Rattle.std.specs.List.{AllByRecursion, filter_map, list_any};
 ghost use Rattle.ov_sync.specs.Keyed.{after};
 ghost use Rattle.item_wire.specs.Inputs.{is_of_control};
@@ -15,8 +15,10 @@ ghost use Rattle.node_core.specs.NodeModel.Step.{Beginning, Idle, Opened, post};
 ghost use Rattle.agent_node.specs.Beginning.{BeginsKeeping};
 ghost use Rattle.agent_node.specs.Core.{holdings, is_idle, sessions};
 ghost use Rattle.agent_node.specs.Ends.{HeldFits, whom};
-ghost use Rattle.agent_node.specs.Applying.{AreLed, HasHeard, HasKeptRoutes, HasLed, HasTaken, HaveKeptRoutes, HaveKeptSlice};
+ghost use Rattle.agent_node.specs.Applying.{AreLed, AreListed, HasHeard, HasKeptRoutes, HasLed, HasListed, HasTaken};
+ghost use Rattle.agent_node.specs.Applying.{HaveKeptRoutes, HaveKeptSlice};
 ghost use Rattle.agent_node.specs.Applying.{changed_by};
+ghost use Rattle.agent_tables.specs.Listed.{list_key};
 ghost use Rattle.agent_tables.specs.Touched.{SameRoutes, route_key};
 
 use crate::ends::AgentEnds;
@@ -131,6 +133,45 @@ fn routes_stay(before: ItemState, after: ItemState, items: &[Item]) -> bool
     }
 }
 
+/// The networks of the access list that a record puts or drops; none where it does something else.
+fn list_of(item: &Item) -> Option<(InstanceId, InstanceId)>
+    ensures { result ≡ list_key (change_of item.now) }
+{
+    match item {
+        Item::Acl { from, to, .. } => Some((InstanceId(*from), InstanceId(*to))),
+        Item::NoAcl { from, to } => Some((InstanceId(*from), InstanceId(*to))),
+        _ => None,
+    }
+}
+
+/// The same, of the one record of a session that stays up; else none.
+fn list_alone(
+    before: ItemState,
+    after: ItemState,
+    records: &[Item],
+) -> Option<(InstanceId, InstanceId)>
+    ensures state { IfSome result (λ n. after ≡ before) }
+    ensures list { IfSome result (λ n. map (λ i. list_key (change_of i)) records.now ≡ Some n ∷ []) }
+{
+    match (before, after) {
+        (ItemState::Up, ItemState::Up) => match records {
+            [record] => list_of(record),
+            _ => None,
+        },
+        _ => None,
+    }
+}
+
+/// The networks of an access list, where it is of the slice in use.
+fn list_in_use(
+    list: Option<(InstanceId, InstanceId)>,
+    in_use: bool,
+) -> Option<(InstanceId, InstanceId)>
+    ensures { IfSome result (λ n. list ≡ Some n) }
+{
+    if in_use { list } else { None }
+}
+
 /// Whether records leave the slice in use as it was, with every route: where they put and drop no route on a session
 /// whose slice is not the one in use.
 fn slice_stays(routes_stay: bool, in_use: bool) -> bool
@@ -151,6 +192,8 @@ struct Taken {
     routes: Option<Vec<(InstanceId, Prefix)>>,
     /// Whether they put and dropped no route, and left the session as it was.
     routes_stay: bool,
+    /// The networks of the access list that they put or dropped, where they did nothing else.
+    list: Option<(InstanceId, InstanceId)>,
 }
 
 /// Hears octets at an end, and applies their records, where none of them takes the session down.
@@ -162,6 +205,7 @@ fn hear_at(alloc: Global, hearing: &mut Hearing, bytes: &[u8]) -> Result<Taken, 
     ensures taken { IfOk result (λ came. came.taken ≤ length bytes.now) }
     ensures led { IfOk result (λ came. IfSome came.routes (λ keys. HasLed keys.items hearing.old hearing.new)) }
     ensures stay { IfOk result (λ came. IsTrue came.routes_stay → HasKeptRoutes hearing.old hearing.new) }
+    ensures list { IfOk result (λ came. IfSome came.list (λ n. HasListed n hearing.old hearing.new)) }
     ensures whom { whom hearing.new ≡ whom hearing.old }
     ensures fits { HeldFits hearing.new }
 {
@@ -177,17 +221,20 @@ fn hear_at(alloc: Global, hearing: &mut Hearing, bytes: &[u8]) -> Result<Taken, 
             cause,
             routes: None,
             routes_stay: false,
+            list: None,
         });
     }
     let after = hearing.session.state();
     let routes = routes_alone(alloc, before, after, &records)?;
     let routes_stay = routes_stay(before, after, &records);
+    let list = list_alone(before, after, &records);
     apply_all(&mut hearing.held, records)?;
     Ok(Taken {
         taken,
         cause: None,
         routes,
         routes_stay,
+        list,
     })
 }
 
@@ -201,6 +248,31 @@ pub(crate) struct Applied {
     pub(crate) routes_stay: bool,
     /// Whether it did so on a session whose slice is not in use.
     pub(crate) slice_stays: bool,
+    /// The networks of the access list of the slice in use that it put or dropped, where it did nothing else.
+    pub(crate) list: Option<(InstanceId, InstanceId)>,
+}
+
+/// An input that has no records, and these replies.
+fn without_records(replies: Items<Items<u8>>) -> Applied
+    ensures { result ≡ record {
+      started = record { replies = replies; taken = 0; cause = None };
+      routes = None;
+      routes_stay = false;
+      slice_stays = false;
+      list = None;
+    } }
+{
+    Applied {
+        started: Started {
+            replies,
+            taken: 0,
+            cause: None,
+        },
+        routes: None,
+        routes_stay: false,
+        slice_stays: false,
+        list: None,
+    }
 }
 
 impl AgentEnds {
@@ -228,12 +300,14 @@ impl AgentEnds {
             AreLed keys.items session self.old.posts self.new.posts)) }
         ensures stay { IfOk result (λ came. IsTrue came.routes_stay
             → HaveKeptRoutes session self.old.posts self.new.posts) }
+        ensures list { IfOk result (λ came. IfSome came.list (λ n. AreListed n session self.old.posts self.new.posts)) }
     {
         let Taken {
             taken,
             cause,
             routes,
             routes_stay,
+            list,
         } = hear_at(self.alloc, &mut self.hearings[usize::from(session)], bytes)?;
         match cause {
             None => Ok(Taken {
@@ -241,6 +315,7 @@ impl AgentEnds {
                 cause: None,
                 routes,
                 routes_stay,
+                list,
             }),
             Some(cause) => {
                 self.close(session);
@@ -249,6 +324,7 @@ impl AgentEnds {
                     cause: Some(cause),
                     routes: None,
                     routes_stay: false,
+                    list: None,
                 })
             }
         }
@@ -272,21 +348,14 @@ impl AgentEnds {
             → SameRoutes (holdings self.old.posts) (holdings self.new.posts)) }
         ensures slice { IfOk result (λ applied. IsTrue applied.slice_stays
             → HaveKeptSlice (session_of input.entry) self.old.posts self.new.posts) }
+        ensures list { IfOk result (λ applied. IfSome applied.list (λ n.
+            AreListed n (session_of input.entry) self.old.posts self.new.posts)) }
     {
         let alloc = self.alloc;
         match input {
             Input::Opened { session } => {
                 let replies = self.greet_at(session)?;
-                Ok(Applied {
-                    started: Started {
-                        replies,
-                        taken: 0,
-                        cause: None,
-                    },
-                    routes: None,
-                    routes_stay: false,
-                    slice_stays: false,
-                })
+                Ok(without_records(replies))
             }
             Input::Bytes { session, bytes } => {
                 let in_use = self.is_in_use(session);
@@ -295,6 +364,7 @@ impl AgentEnds {
                     cause,
                     routes,
                     routes_stay,
+                    list,
                 } = self.hear_on(session, bytes)?;
                 Ok(Applied {
                     started: Started {
@@ -305,20 +375,12 @@ impl AgentEnds {
                     routes,
                     routes_stay,
                     slice_stays: slice_stays(routes_stay, in_use),
+                    list: list_in_use(list, in_use),
                 })
             }
             Input::Closed { session } => {
                 self.close(session);
-                Ok(Applied {
-                    started: Started {
-                        replies: Items::new(alloc),
-                        taken: 0,
-                        cause: None,
-                    },
-                    routes: None,
-                    routes_stay: false,
-                    slice_stays: false,
-                })
+                Ok(without_records(Items::new(alloc)))
             }
         }
     }

@@ -1,5 +1,5 @@
 //! The ends of an agent's sessions.
-ghost use Rattle.std.specs.Prelude.{◌≡◌, ◌≤◌, ◌<◌, [], length, slice_set, IfOk, OnOk};
+ghost use Rattle.std.specs.Prelude.{◌≡◌, ◌≤◌, ◌<◌, [], length, slice_set, IfOk, IsTrue, OnOk};
 ghost use Rattle.std.specs.List.{list_any};
 ghost use Rattle.item_wire.specs.Happenings.{after};
 ghost use Rattle.item_wire.specs.declared.input.Came.TheVariants.{Closed};
@@ -8,6 +8,8 @@ ghost use Rattle.node_core.specs.Resting.{end_at};
 ghost use Rattle.node_items.specs.Beginning.{phase_of};
 ghost use Rattle.node_core.specs.NodeModel.Step.{nothing, post};
 ghost use Rattle.flow_acl.specs.Flows.{AreOf};
+ghost use Rattle.node_core.specs.NodeModel.Agent.{Holdings, is_needed};
+ghost use Rattle.agent_tables.specs.Listed.{HaveSame, SameBut, list_between};
 ghost use Rattle.agent_tables.specs.Touched.{AreTables, HaveRoutes, with_routes};
 ghost use Rattle.agent_node.specs.Applying.{is_in_use};
 ghost use Rattle.agent_node.specs.Core.{holdings, is_up, kind, nothings, sessions};
@@ -201,5 +203,36 @@ impl AgentEnds {
         ensures stays { tables.new.rows.acls ≡ tables.old.rows.acls → flows.new ≡ flows.old }
     {
         tables.set_objects(flows, self.alloc, &self.hearings)
+    }
+
+    /// Whether the agent needs the very same instances where another access list, or none, stands between two networks.
+    /// It may say no where it does.
+    pub(crate) fn needs_stay(
+        &self,
+        tables: &AgentTables,
+        networks: (InstanceId, InstanceId),
+    ) -> Result<bool, NoMemory>
+        ensures { IfOk result (λ stay. IsTrue stay → (before : Holdings) → AreTables before tables.now
+            → SameBut (list_between networks) before (holdings self.now.posts)
+            → (i : InstanceId) → is_needed before i ≡ is_needed (holdings self.now.posts) i) }
+    {
+        tables.needs_stay(self.alloc, &self.hearings, networks.0, networks.1)
+    }
+
+    /// The tables are what the sessions give from now on, where they were those of sessions that are the same but for the
+    /// access list between two networks.
+    pub(crate) fn set_list(
+        &self,
+        tables: &mut AgentTables,
+        flows: &mut FlowCache,
+        networks: (InstanceId, InstanceId),
+    ) -> Result<(), NoMemory>
+        requires { AreOf tables.old.rows.acls flows.old }
+        ensures set { OnOk result (HaveSame (list_between networks) (holdings self.now.posts) tables.old
+            → AreTables (holdings self.now.posts) tables.new) }
+        ensures kept { AreOf tables.new.rows.acls flows.new }
+        ensures stays { tables.new.rows.acls ≡ tables.old.rows.acls → flows.new ≡ flows.old }
+    {
+        tables.set_list(flows, &self.hearings, networks.0, networks.1)
     }
 }

@@ -1,13 +1,14 @@
 //! The ends of an agent's sessions, with what it forwards by.
-ghost use Rattle.std.specs.Prelude.{◌≡◌, ◌<◌, ◌≤◌, [], length, true, IfOk, OnOk};
+ghost use Rattle.std.specs.Prelude.{◌≡◌, ◌<◌, ◌≤◌, ◌||◌, [], length, is_some, true, IfOk, IfSome, OnOk, Some};
 ghost use Rattle.std.specs.List.{All};
 ghost use Rattle.ov_types.specs.Access.{verdict};
 ghost use Rattle.route_targets.specs.Forwarding.{attached, looked_up};
 ghost use Rattle.packet_trace.specs.Circuits.{IsOfAUse};
 ghost use Rattle.node_core.specs.Plans.{ArePlans};
-ghost use Rattle.node_core.specs.NodeModel.Agent.{Holdings, rows as rows_of};
+ghost use Rattle.node_core.specs.NodeModel.Agent.{Holdings, is_needed, rows as rows_of};
 ghost use Rattle.node_laws.specs.Stepped.{AreTold};
 ghost use Rattle.flow_acl.specs.Flows.{AreOf};
+ghost use Rattle.agent_tables.specs.Listed.{HaveSame, SameBut, list_between};
 ghost use Rattle.agent_tables.specs.Touched.{AgreeBut, AreTables, HaveRoutes};
 ghost use Rattle.agent_node.specs.Core.{holdings, kind, nothings, sessions};
 ghost use Rattle.agent_node.specs.Planning.{AreSilent};
@@ -28,7 +29,8 @@ use std::marker::Model;
 
 /// The ends of all sessions, and the tables of what they hold. An input that puts or drops routes alone changes their
 /// rows alone, and tells nothing. One that puts and drops no route leaves the routes of the instances that stay needed;
-/// where its session's slice is not in use, it changes no table and tells nothing.
+/// where its session's slice is not in use, it changes no table and tells nothing. One that puts or drops but one access
+/// list of the slice in use changes that list alone, and tells nothing where the same instances are needed.
 #[derive(Drop)]
 pub(crate) struct TabledEnds {
     ends: AgentEnds,
@@ -37,13 +39,17 @@ pub(crate) struct TabledEnds {
     current: bool,
     /// Whether the tables are those of sessions with the same routes as what is held.
     routed: bool,
+    /// Two networks, where the tables are those of sessions that are the same as what is held but for the access list
+    /// between them, and the same instances are needed.
+    list: Option<(InstanceId, InstanceId)>,
     /// Whether what was sent is what is wanted, on each session that may send.
     told: bool,
 }
 
 impl Model for TabledEnds {
-    ghost use Rattle.std.specs.Prelude.{◌≡◌, true};
+    ghost use Rattle.std.specs.Prelude.{◌≡◌, true, IfSome};
     ghost use Rattle.node_laws.specs.Stepped.{AreTold};
+    ghost use Rattle.agent_tables.specs.Listed.{HaveSame, list_between};
     ghost use Rattle.agent_tables.specs.Touched.{AreTables, HaveRoutes};
     ghost use Rattle.agent_node.specs.Core.{holdings, kind};
     ghost use Rattle.agent_node.specs.Ends.{Forwarding, coded_forwarding};
@@ -56,7 +62,8 @@ impl Model for TabledEnds {
 
     ghost invariant = { λ t. (t.current ≡ true → AreTables (holdings t.ends.posts) t.tables)
         × (t.routed ≡ true → HaveRoutes (holdings t.ends.posts) t.tables)
-        × (t.told ≡ true → AreTold kind t.ends.posts) };
+        × (t.told ≡ true → AreTold kind t.ends.posts)
+        × IfSome t.list (λ n. HaveSame (list_between n) (holdings t.ends.posts) t.tables) };
 }
 
 /// Plans of as many sessions, none of which is to be told anything.
@@ -92,20 +99,60 @@ fn lead(
     }
 }
 
-/// Makes the tables those of what is held. Where they were those of sessions with the same routes, the routes of the
-/// instances that stay needed stay where they are.
+/// The networks of an access list that alone changed, where the tables were those of what was held before, and the agent
+/// needs the same instances.
+fn list_within(
+    ends: &AgentEnds,
+    tables: &AgentTables,
+    list: Option<(InstanceId, InstanceId)>,
+    current: bool,
+) -> Result<Option<(InstanceId, InstanceId)>, NoMemory>
+    ensures list { IfOk result (λ kept. IfSome kept (λ n. list ≡ Some n)) }
+    ensures current { IfOk result (λ kept. IfSome kept (λ n. current ≡ true)) }
+    ensures needs { IfOk result (λ kept. IfSome kept (λ n. (before : Holdings) → AreTables before tables.now
+        → SameBut (list_between n) before (holdings ends.now.posts)
+        → (i : InstanceId) → is_needed before i ≡ is_needed (holdings ends.now.posts) i)) }
+{
+    let Some(networks) = list else {
+        return Ok(None);
+    };
+    if !current {
+        return Ok(None);
+    }
+    if ends.needs_stay(tables, networks)? {
+        Ok(Some(networks))
+    } else {
+        Ok(None)
+    }
+}
+
+/// Whether what is wanted stays: where the slice in use does, or but one access list of it changed.
+fn wants_stay(slice_stays: bool, list: Option<(InstanceId, InstanceId)>) -> bool
+    ensures { result ≡ (slice_stays || is_some list) }
+{
+    slice_stays || list.is_some()
+}
+
+/// Makes the tables those of what is held. Where they were those of sessions that are the same but for one access list,
+/// that one alone changes; where they were those of sessions with the same routes, the routes of the instances that stay
+/// needed stay where they are.
 fn renew(
     ends: &AgentEnds,
     tables: &mut AgentTables,
     flows: &mut FlowCache,
     routed: bool,
+    list: Option<(InstanceId, InstanceId)>,
 ) -> Result<(), NoMemory>
     requires { AreOf tables.old.rows.acls flows.old }
     ensures set { OnOk result ((routed ≡ true → HaveRoutes (holdings ends.now.posts) tables.old)
+        → IfSome list (λ n. HaveSame (list_between n) (holdings ends.now.posts) tables.old)
         → AreTables (holdings ends.now.posts) tables.new) }
     ensures kept { AreOf tables.new.rows.acls flows.new }
     ensures stays { tables.new.rows.acls ≡ tables.old.rows.acls → flows.new ≡ flows.old }
 {
+    if let Some(networks) = list {
+        return ends.set_list(tables, flows, networks);
+    }
     if routed {
         return ends.set_objects(tables, flows);
     }
@@ -156,6 +203,7 @@ impl Ends for TabledEnds {
         let told = self.told;
         self.current = false;
         self.routed = false;
+        self.list = None;
         self.told = false;
         let applied = self.ends.apply(input);
         let _after = self.ends.sessions();
@@ -164,11 +212,14 @@ impl Ends for TabledEnds {
             routes,
             routes_stay,
             slice_stays,
+            list,
         } = applied?;
         let Some(routes) = routes else {
+            let list = list_within(&self.ends, &self.tables, list, current)?;
             self.current = are_both(current, slice_stays);
             self.routed = are_both(current, routes_stay);
-            self.told = are_both(told, slice_stays);
+            self.told = are_both(told, wants_stay(slice_stays, list));
+            self.list = list;
             return Ok(started);
         };
         lead(&self.ends, &mut self.tables, &routes, current)?;
@@ -182,10 +233,13 @@ impl Ends for TabledEnds {
             return no_plans(self.ends.alloc(), self.ends.sessions());
         }
         let routed = self.routed;
+        let list = self.list;
         self.current = false;
         self.routed = false;
+        self.list = None;
         let plans = self.ends.plan()?;
         self.routed = routed;
+        self.list = list;
         self.told = true;
         Ok(plans)
     }
@@ -193,6 +247,7 @@ impl Ends for TabledEnds {
     fn close(&mut self, session: u16) {
         self.current = false;
         self.routed = false;
+        self.list = None;
         self.told = false;
         self.ends.close(session);
     }
@@ -220,6 +275,7 @@ impl TabledEnds {
             tables: AgentTables::new(alloc),
             current: false,
             routed: false,
+            list: None,
             told: false,
         })
     }
@@ -245,8 +301,10 @@ impl TabledEnds {
             return Ok(());
         }
         let routed = self.routed;
+        let list = self.list;
         self.routed = false;
-        renew(&self.ends, &mut self.tables, flows, routed)?;
+        self.list = None;
+        renew(&self.ends, &mut self.tables, flows, routed, list)?;
         self.current = true;
         Ok(())
     }
@@ -259,6 +317,7 @@ impl TabledEnds {
     {
         self.current = false;
         self.routed = false;
+        self.list = None;
         self.tables = AgentTables::new(self.ends.alloc());
     }
 

@@ -9,3 +9,5 @@ pub mod Ordered
 pub mod Slices
 pub mod Routes
 pub mod Touched
+pub mod Listed
+pub mod Held

@@ -1,16 +1,16 @@
 -- Entries in the order of their keys.
-use Rattle.std.specs.Prelude.{◌≡◌, List, [], ◌∷◌, ◌++◌, Bool, true, false, cond}
+use Rattle.std.specs.Prelude.{◌≡◌, List, [], ◌∷◌, ◌++◌, Bool, true, false, cond, drop, length}
 use Rattle.std.specs.declared.cmp.Ordering.{Ordering}
 use Rattle.std.specs.declared.cmp.Ordering.TheVariants.{Less, Equal, Greater}
 use Rattle.std.specs.declared.option.Option.{Option}
 use Rattle.std.specs.declared.option.Option.TheVariants.{Some, None}
 use Rattle.std.specs.BTreeMap.{insert_entry, is_at}
-use Rattle.std.specs.Ordering.{is_eq, eq_by_cmp}
-use Rattle.std.specs.Cmp.{IsTotalOrder}
+use Rattle.std.specs.Ordering.{is_eq, eq_by_cmp, match_ordering}
+use Rattle.std.specs.Cmp.{IsTotalOrder, tied_itself}
 use Rattle.std.specs.List.{filter, filter_map, cons_option}
-use Rattle.std.specs.Map.{lookup}
+use Rattle.std.specs.Map.{lookup, remove_entry}
 use Rattle.std.specs.FinMap.{FinMap, IsAntisymmetric, find, put, insert, entries, get-entries, get-from_entries, entries-insert, get-insert, same_map}
-use Rattle.std.proofs.Common.{refl, sym, ◌∙◌, ap, subst, append_assoc, append-nil}
+use Rattle.std.proofs.Common.{refl, sym, ◌∙◌, ap, subst, append_assoc, append-nil, arith}
 use Rattle.ov_sync.specs.Keyed.{map_of}
 use Rattle.ov_sync.proofs.Ascending.{above, Over, Ascends, put-insert_entry, ascends_entries, entries-map_of, get-map_of, map_of-entries}
 use Rattle.agent_tables.specs.Kept.{with_entry}
@@ -113,3 +113,25 @@ module _ {K V : Type 0} (R : K → K → Ordering) where
 
     pub all_in_order : (fs : List (K × V)) → Ascends R fs → all_with [] fs ≡ fs
     all_in_order fs h = all_at_end [] fs h
+
+-- ---- lists that an entry put or dropped leaves as they were
+module _ {K V : Type 0} (R : K → K → Ordering) (o : IsTotalOrder R) where
+  put_here : (es : List (K × V)) (k : K) (v : V) → lookup (is_at (R k)) (insert_entry R es k v) ≡ Some v
+  put_here [] k v = ap (λ r. cond (is_eq r) (Some v) None) (tied_itself o k)
+  put_here (e ∷ es) k v =
+      elim (R k e.0) as (λ r. R k e.0 ≡ r → lookup (is_at (R k)) (match_ordering r ((k, v) ∷ e ∷ es) ((e.0, v) ∷ es) (e ∷ insert_entry R es k v)) ≡ Some v) [
+        | Less ↦ λ s. ap (λ r. cond (is_eq r) (Some v) (lookup (is_at (R k)) (e ∷ es))) (tied_itself o k)
+        | Equal ↦ λ s. ap (λ r. cond (is_eq r) (Some v) (lookup (is_at (R k)) es)) s
+        | Greater ↦ λ s. ap (λ r. cond (is_eq r) (Some e.1) (lookup (is_at (R k)) (insert_entry R es k v))) s ∙ put_here es k v
+      ] refl
+
+  pub there_before : (es : List (K × V)) (k : K) (v : V) → insert_entry R es k v ≡ es → lookup (is_at (R k)) es ≡ Some v
+  there_before es k v same = sym (ap (lookup (is_at (R k))) same) ∙ put_here es k v
+
+pub nowhere_before : {K V : Type 0} (p : K → Bool) (es : List (K × V)) → remove_entry p es ≡ es → lookup p es ≡ None
+nowhere_before p [] same = refl
+nowhere_before {K = K} {V = V} p (e ∷ es) same =
+    elim (p e.0) as (λ b. cond b es (e ∷ remove_entry p es) ≡ e ∷ es → cond b (Some e.1) (lookup p es) ≡ None) [
+      | true ↦ λ s. let long = ap length s in absurd (omega (arith, long))
+      | false ↦ λ s. nowhere_before p es (ap (drop 1) s)
+    ] same

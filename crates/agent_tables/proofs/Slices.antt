@@ -103,7 +103,7 @@ lists_keep d e x y p q h = sym (λ i. low_key_cmp (acl_key d.0 d.1 x p i) (acl_k
 abbrev pub lists_in : List (LowKey × LowValue) → List (LowKey × LowValue)
 lists_in slice = filter_map (λ e. acl_entry e.0 e.1) slice
 
-low_total : IsTotalOrder low_key_cmp
+pub low_total : IsTotalOrder low_key_cmp
 low_total = subst IsTotalOrder (λ i x y. images.low_keeps x y i) (on_total Low key_total)
 
 pub lists_in_order : (slice : List (LowKey × LowValue)) → IsStrictlySortedBy low_key_cmp (map (λ e. e.0) slice) → all_with low_key_cmp [] (lists_in slice) ≡ lists_in slice

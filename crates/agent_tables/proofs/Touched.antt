@@ -10,7 +10,7 @@ use Rattle.std.specs.Cmp.{nat_cmp_total, tied_itself}
 use Rattle.std.specs.List.{cons_option, filter_map, list_any}
 use Rattle.std.specs.List.Sorted.{IsStrictlySortedBy}
 use Rattle.std.specs.Map.{lookup, remove_entry, set_value}
-use Rattle.std.specs.FinMap.{find, get, insert, remove, entries, entries-insert, get-insert, get-remove}
+use Rattle.std.specs.FinMap.{find, get, entries, entries-insert, get-insert, get-remove}
 use Rattle.std.proofs.lemmas.Bool.{eqb-true, true≢false}
 use Rattle.std.proofs.lemmas.Option.{same_Some}
 use Rattle.std.proofs.Common.{refl, sym, ◌∙◌, ap, subst, set}
@@ -27,10 +27,9 @@ use Rattle.ov_types.specs.declared.rows.Entry.{Entry as RouteEntry}
 use Rattle.packet_trace.specs.Tables.{rows_in}
 use Rattle.item_wire.specs.declared.item.Item.{Item}
 use Rattle.node_items.specs.Told.{change_of}
-use Rattle.node_items.specs.NodeModel.Agent.{Heard, Holdings, acl_entry, as_hop, attached, besides_rows, first_some, is_needed, needed, needed_by, route_from, routes, rows as rows_held, slice_in_use}
+use Rattle.node_items.specs.NodeModel.Agent.{Heard, Holdings, acl_entry, as_hop, attached, besides_rows, first_some, is_needed, needed_by, route_from, routes, rows as rows_held, slice_in_use}
 use Rattle.node_items.specs.NodeModel.Keys.{Key, Low, Row, Vpn, Publish, Subscribe, key_cmp}
 use Rattle.node_items.specs.NodeModel.Maps.{Change, Map, low_entry, objects}
-use Rattle.node_items.specs.NodeModel.Members.{Member}
 use Rattle.node_items.specs.NodeModel.Values.{Value}
 use Rattle.node_items.proofs.NodeModel.Heard.{first_rows, route_is, row_exact, row_total, same_options}
 use Rattle.node_items.proofs.NodeModel.Members.{found, from_find, none_some}

@@ -6,3 +6,4 @@ pub mod Kept
 pub mod Routes
 pub mod Touched
 pub mod Sliced
+pub mod Listed

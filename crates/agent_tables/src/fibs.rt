@@ -35,7 +35,7 @@ pub(crate) fn empty_fibs(alloc: Global, instances: &[InstanceId]) -> Result<Fibs
 }
 
 /// The instances that have a table.
-fn instances(alloc: Global, fibs: &Fibs) -> Result<Vec<InstanceId>, NoMemory>
+pub(crate) fn instances(alloc: Global, fibs: &Fibs) -> Result<Vec<InstanceId>, NoMemory>
     ensures { IfOk result (λ instances. instances.items ≡ map (λ t. t.0) fibs.now.entries) }
 {
     let mut instances = Vec::new(alloc);

@@ -1,11 +1,13 @@
 //! Laws of what an agent wants: each is the contract of a function that does nothing.
-ghost use Rattle.std.specs.Prelude.{◌≡◌, ℕ, None, Some, if◌then◌else◌};
+ghost use Rattle.std.specs.Prelude.{◌≡◌, ℕ, None, Some, true, if◌then◌else◌};
 ghost use Rattle.std.specs.List.{AllByRecursion};
 ghost use Rattle.ov_types.specs.declared.numbers.InstanceId.{InstanceId};
+ghost use Rattle.ov_types.specs.declared.objects.LowKey.{LowKey};
 ghost use Rattle.node_items.specs.Told.{AllFit};
 ghost use Rattle.node_items.specs.NodeModel.Agent.{Heard, Holdings, is_needed, route_from, routes, rows, slice_in_use, wanted};
 ghost use Rattle.node_items.specs.NodeModel.Maps.{Change};
 ghost use Rattle.node_items.specs.NodeModel.Step.{At};
+ghost use Rattle.agent_tables.specs.Listed.{SameBut, is_list, list_between, list_key};
 ghost use Rattle.agent_tables.specs.Touched.{RowKey, SameRoutes, route_key, told, with_row};
 
 /// Where what is held can be told, so can all that is wanted.
@@ -38,4 +40,18 @@ pub fn what_is_no_route_changes_no_route()
 /// What is wanted of the control nodes is a function of the slice in use.
 pub fn wants_are_of_the_slice_in_use()
     ensures { (h g : Holdings) → slice_in_use h ≡ slice_in_use g → wanted h ≡ wanted g }
+{}
+
+/// Where another access list, or none, stands between two networks in the slice in use, and the agent needs the same
+/// instances, it wants the same of its control nodes.
+pub fn an_access_list_is_not_published()
+    ensures { (k : LowKey) → is_list k ≡ true → (h g : Holdings) → SameBut k h g
+        → ((i : InstanceId) → is_needed h i ≡ is_needed g i) → wanted h ≡ wanted g }
+{}
+
+/// A change of the access list between two networks, on one session, leaves every route that is heard, and of the slice in
+/// use all but that list.
+pub fn an_access_list_changes_alone()
+    ensures { (h : Holdings) (session : ℕ) (s : Heard) (change : Change) (n : InstanceId × InstanceId) → At h session s
+        → list_key (Some change) ≡ Some n → SameBut (list_between n) h (told h session s change) }
 {}

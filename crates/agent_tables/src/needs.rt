@@ -1,8 +1,11 @@
 //! The instances that an agent needs.
-ghost use Rattle.std.specs.Prelude.{◌≡◌, ◌++◌, IfOk, OnOk};
-ghost use Rattle.std.specs.List.{filter_map};
+ghost use Rattle.std.specs.Prelude.{◌≡◌, ◌++◌, true, IfOk, IsTrue, OnOk};
+ghost use Rattle.std.specs.List.{filter_map, list_all};
+ghost use Rattle.std.specs.Option.{option_copied, option_map};
 ghost use Rattle.node_items.specs.NodeModel.Agent.{entered_by, needed_by, needed_for};
+ghost use Rattle.agent_tables.specs.Listed.{needed_at};
 ghost use Rattle.agent_tables.specs.Slice.{pairs_of};
+ghost use Rattle.agent_tables.specs.Touched.{is_listed};
 
 use crate::object::SliceObject;
 use ov_types::{AclAction, AclRule, InstanceId, LowValue, NoMemory};
@@ -48,4 +51,66 @@ fn need_entered(needed: &mut Vec<InstanceId>, rules: &[AclRule]) -> Result<(), N
         }
     }
     Ok(())
+}
+
+/// The instances that an object makes the agent need; none where there is no object.
+pub(crate) fn needed_at(
+    alloc: Global,
+    object: Option<SliceObject<'_>>,
+) -> Result<Vec<InstanceId>, NoMemory>
+    ensures { IfOk result (λ needed. needed.items ≡ needed_at (option_map (λ o. o.value.now) object.entry)) }
+{
+    let mut needed = Vec::new(alloc);
+    if let Some(object) = object {
+        need(&mut needed, &object)?;
+    }
+    Ok(needed)
+}
+
+fn is_among(instances: &[InstanceId], instance: InstanceId) -> bool
+    ensures { result ≡ is_listed instances.now instance }
+{
+    for other in instances {
+        if other.0 == instance.0 {
+            return true;
+        }
+    }
+    false
+}
+
+/// Whether all of these instances are among the others.
+pub(crate) fn are_among(others: &[InstanceId], instances: &[InstanceId]) -> bool
+    ensures { result ≡ list_all (λ i. is_listed others.now i) instances.now }
+{
+    for instance in instances {
+        if !is_among(others, *instance) {
+            return false;
+        }
+    }
+    true
+}
+
+/// Whether each instance that these rules enter is among the others.
+fn enter_only(others: &[InstanceId], rules: &[AclRule]) -> bool
+    ensures { result ≡ list_all (λ i. is_listed others.now i) (filter_map (λ r. entered_by r.action) rules.now) }
+{
+    for rule in rules {
+        if let AclAction::Enter(instance) = rule.action
+            && !is_among(others, instance)
+        {
+            return false;
+        }
+    }
+    true
+}
+
+/// Whether a list, where there is one, makes the agent need instances among the others alone.
+pub(crate) fn needs_only(others: &[InstanceId], list: Option<&LowValue>) -> bool
+    ensures { IsTrue result → list_all (λ i. is_listed others.now i) (needed_at (option_copied list.entry)) ≡ true }
+{
+    match list {
+        None => true,
+        Some(LowValue::Acl { rules, .. }) => enter_only(others, rules.as_slice()),
+        Some(_) => false,
+    }
 }

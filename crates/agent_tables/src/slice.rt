@@ -1,18 +1,21 @@
 //! The slice in use.
 ghost use Rattle.std.specs.Prelude.{◌≡◌, IfOk, map};
 ghost use Rattle.std.specs.List.{AllByRecursion};
-ghost use Rattle.std.specs.Option.{option_map};
+ghost use Rattle.std.specs.FinMap.{find};
+ghost use Rattle.std.specs.Option.{IfSome, option_map};
+ghost use Rattle.ov_types.specs.Keys.{low_key_cmp};
 ghost use Rattle.node_items.specs.Told.{AllFit, Fits, down_of, down_value};
 ghost use Rattle.node_items.specs.NodeModel.Agent.{Heard, slice_in_use};
 ghost use Rattle.node_items.specs.NodeModel.Keys.{of_down};
 ghost use Rattle.node_items.specs.NodeModel.Maps.{low_entry, objects};
+ghost use Rattle.agent_tables.specs.Listed.{object_in_use};
 ghost use Rattle.agent_tables.specs.Slice.{pair_of, pairs_of};
 ghost use Rattle.agent_tables.specs.Views.{heard_of};
 
 use crate::hearing::Hearing;
 use crate::object::SliceObject;
 use ov_sync::SyncIn;
-use ov_types::{DownKey, DownValue, NoMemory};
+use ov_types::{DownKey, DownValue, LowKey, NoMemory};
 use std::alloc::Global;
 
 /// The objects of the slice in use, in the order of their keys: of that of the first session that is up, and none where
@@ -59,5 +62,31 @@ fn object_of<'a>(key: &DownKey, value: &'a DownValue) -> Option<SliceObject<'a>>
     match value {
         DownValue::Object(value) => Some(SliceObject { key, value }),
         DownValue::Row(_) => None,
+    }
+}
+
+/// The object under a key in the slice in use.
+pub(crate) fn object_in_use(sessions: &[Hearing], key: LowKey) -> Option<SliceObject<'_>>
+    requires { AllByRecursion (λ (s : Heard). AllFit s.map) (map heard_of sessions.now) }
+    ensures object { option_map (λ o. o.value.now) result ≡ object_in_use (map heard_of sessions.now) key }
+    ensures key { IfSome result (λ o. o.key ≡ key) }
+{
+    for session in sessions {
+        if session.is_up() {
+            return object_under(&session.held, key);
+        }
+    }
+    None
+}
+
+fn object_under(held: &SyncIn<DownKey, DownValue>, key: LowKey) -> Option<SliceObject<'_>>
+    requires { AllFit (down_of held.now) }
+    ensures object { option_map (λ o. o.value.now) result ≡ find low_key_cmp key (objects (down_of held.now)) }
+    ensures key { IfSome result (λ o. o.key ≡ key) }
+{
+    match held.get(&DownKey::Slice(key)) {
+        Some(DownValue::Object(value)) => Some(SliceObject { key, value }),
+        Some(DownValue::Row(_)) => None,
+        None => None,
     }
 }

@@ -1,23 +1,29 @@
 //! What an agent forwards by.
-ghost use Rattle.std.specs.Prelude.{◌≡◌, [], IfOk, OnErr, OnOk, map};
+ghost use Rattle.std.specs.Prelude.{◌≡◌, [], IfOk, IsTrue, OnErr, OnOk, map};
 ghost use Rattle.std.specs.List.{All, AllByRecursion};
 ghost use Rattle.ov_types.specs.Access.{verdict};
+ghost use Rattle.ov_types.specs.declared.objects.LowKey.TheVariants.{Acl};
 ghost use Rattle.route_targets.specs.Forwarding.{attached, looked_up};
 ghost use Rattle.packet_trace.specs.Circuits.{IsOfAUse};
 ghost use Rattle.node_items.specs.Told.{AllFit};
-ghost use Rattle.node_items.specs.NodeModel.Agent.{Heard};
+ghost use Rattle.node_items.specs.NodeModel.Agent.{Heard, Holdings, is_needed};
 ghost use Rattle.flow_acl.specs.Flows.{AreOf};
+ghost use Rattle.agent_tables.specs.Listed.{HaveSame, SameBut};
 ghost use Rattle.agent_tables.specs.Touched.{AreTables, HaveRoutes, with_routes};
 ghost use Rattle.agent_tables.specs.Sliced.{AreOfSlice};
 ghost use Rattle.agent_tables.specs.Views.{heard_of};
 
-use crate::fibs::{Fibs, have_same_instances, keep_heard, lead_all};
+use crate::acls::{are_same, put_list};
+use crate::fibs::{Fibs, have_same_instances, instances, keep_heard, lead_all};
 use crate::hearing::Hearing;
+use crate::needs::{are_among, needed_at, needs_only};
+use crate::object::value_of;
 use crate::rows::{acl_rows, label_rows, route_rows};
+use crate::slice::object_in_use;
 use crate::sliced::{SliceTables, slice_tables};
 use flow_acl::{Acls, FlowCache};
 use ov_types::{
-    Addr, AgentRows, Attached, Entry, InstanceId, Label, NoMemory, Packet, Prefix, Verdict,
+    Addr, AgentRows, Attached, Entry, InstanceId, Label, LowKey, NoMemory, Packet, Prefix, Verdict,
 };
 use std::alloc::Global;
 use std::collections::BTreeMap;
@@ -25,7 +31,8 @@ use std::marker::Model;
 use vrouter_fib::Labels;
 
 /// The labels, access lists and routes of an agent, which contracts see as its rows, with the instances that have a table
-/// of routes, perhaps of none. Its calls but for `of`, `set_routes`, `set_objects` and `rows` take no memory.
+/// of routes, perhaps of none. Its calls but for `of`, `set_routes`, `set_objects`, `needs_stay`, `set_list` and
+/// `rows` take no memory.
 #[derive(Drop)]
 pub struct AgentTables {
     labels: Labels,
@@ -114,6 +121,63 @@ impl AgentTables {
         }
         let made = AgentTables::with_heard(tables, sessions)?;
         self.renew(flows, made);
+        Ok(())
+    }
+
+    /// Whether the agent needs the very same instances where another access list, or none, stands between two networks in
+    /// the slice in use. It may say no where it does.
+    pub fn needs_stay(
+        &self,
+        alloc: Global,
+        sessions: &[Hearing],
+        from: InstanceId,
+        to: InstanceId,
+    ) -> Result<bool, NoMemory>
+        requires { AllByRecursion (λ (s : Heard). AllFit s.map) (map heard_of sessions.now) }
+        ensures { IfOk result (λ stay. IsTrue stay → (before : Holdings) → AreTables before self.now
+            → SameBut (Acl from.0 to.0) before (map heard_of sessions.now)
+            → (i : InstanceId) → is_needed before i ≡ is_needed (map heard_of sessions.now) i) }
+    {
+        let key = LowKey::Acl {
+            from: from.0,
+            to: to.0,
+        };
+        let needed = needed_at(alloc, object_in_use(sessions, key))?;
+        let known = instances(alloc, &self.fibs)?;
+        if !are_among(&known, &needed) {
+            return Ok(false);
+        }
+        Ok(needs_only(&needed, self.acls.get(from, to)))
+    }
+
+    /// Forwards by what the sessions give from now on, where these tables were those of sessions that are the same but
+    /// for the access list between two networks: by that of the slice in use. Nothing else changes. What is kept of
+    /// verdicts goes where the access list changes.
+    pub fn set_list(
+        &mut self,
+        flows: &mut FlowCache,
+        sessions: &[Hearing],
+        from: InstanceId,
+        to: InstanceId,
+    ) -> Result<(), NoMemory>
+        requires fits { AllByRecursion (λ (s : Heard). AllFit s.map) (map heard_of sessions.now) }
+        requires kept { AreOf self.old.rows.acls flows.old }
+        ensures set { OnOk result (HaveSame (Acl from.0 to.0) (map heard_of sessions.now) self.old
+            → AreTables (map heard_of sessions.now) self.new) }
+        ensures unchanged { OnErr result (self.new ≡ self.old) }
+        ensures kept { AreOf self.new.rows.acls flows.new }
+        ensures stays { self.new.rows.acls ≡ self.old.rows.acls → flows.new ≡ flows.old }
+    {
+        let key = LowKey::Acl {
+            from: from.0,
+            to: to.0,
+        };
+        let list = object_in_use(sessions, key);
+        if are_same(self.acls.get(from, to), value_of(list)) {
+            return Ok(());
+        }
+        put_list(&mut self.acls, from, to, list)?;
+        flows.clear();
         Ok(())
     }
 

@@ -2,7 +2,8 @@
 ghost use Rattle.std.specs.Prelude.{◌≡◌, ◌↔◌, [], map, IsTrue, OnOk, OnErr};
 ghost use Rattle.std.specs.BTreeMap.{insert_entry, is_at};
 ghost use Rattle.std.specs.List.Sorted.{IsStrictlySortedBy};
-ghost use Rattle.std.specs.Map.{remove_entry};
+ghost use Rattle.std.specs.Map.{lookup, remove_entry};
+ghost use Rattle.std.specs.Option.{option_copied};
 ghost use Rattle.ov_types.specs.Keys.{low_key_cmp};
 ghost use Rattle.ov_types.specs.declared.objects.LowKey.TheVariants as Key;
 ghost use Rattle.flow_acl.specs.Lists.{IsAccessList};
@@ -62,6 +63,17 @@ impl Acls {
             to: to.0,
         };
         self.lists.remove(&key);
+    }
+
+    /// The list of packets from one network to another. It takes no memory.
+    pub fn get(&self, from: InstanceId, to: InstanceId) -> Option<&LowValue>
+        ensures { option_copied result ≡ lookup (is_at (low_key_cmp (Key.Acl from.0 to.0))) self.now }
+    {
+        let key = LowKey::Acl {
+            from: from.0,
+            to: to.0,
+        };
+        self.lists.get(&key)
     }
 
     /// Whether the others are the very same lists. It takes no memory.

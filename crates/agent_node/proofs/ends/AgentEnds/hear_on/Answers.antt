@@ -2,10 +2,10 @@ use Rattle.std.proofs.Common.{◌<◌, ℕ, drop, length, slice_set, set, subst,
 use Rattle.std.proofs.Common.{ap, ◌∙◌, arith, Some, None}
 use Rattle.std.proofs.lemmas.List.{length-set}
 use Rattle.node_core.specs.NodeModel.Step.{nothing}
-use Rattle.agent_node.specs.Applying.{AreLed, HasHeard, HasLed, HasTaken, HaveKeptRoutes}
+use Rattle.agent_node.specs.Applying.{AreLed, AreListed, HasHeard, HasLed, HasListed, HasTaken, HaveKeptRoutes}
 use Rattle.agent_node.specs.Ends.{Ends, posts_of, whom}
 use Rattle.agent_node.proofs.Begins.{taken_down, taken_on, whom_at}
-use Rattle.agent_node.proofs.Led.{are_led, if_some, routes_kept}
+use Rattle.agent_node.proofs.Led.{are_led, are_listed, if_some, routes_kept}
 use Rattle.agent_node.proofs.Posts.{ends_hear, ends_long, posts_long}
 use Rattle.agent_node.proofs.ends.AgentEnds.hear_on.Goals as goal
 
@@ -103,3 +103,20 @@ returns-in-None-clause-stay c = λ on.
     (subst (λ (e : Ends). HaveKeptRoutes c.from.result e.posts (posts_of (slice_set hs c.from.result h') ss)) c.self.view_is
     (routes_kept c.self.inside.plan hs ss c.self.invariant c.from.result h lt c.index_mut.ensures.value h'
     (c.in_ok-taken.ensures.stay on)))
+
+pub returns-in-None-clause-list : goal.returns-in-None-clause-list
+returns-in-None-clause-list c =
+    let hs = c.self.inside.hearings.items in
+    let ss = c.self.inside.sents.items in
+    let h = c.index_mut.result.now in
+    let h' = c.hear_at.new.hearing in
+    let controllers = ap (λ (e : Ends). length e.plan.controllers) c.self.view_is in
+    let long = ends_long c.self.inside.plan hs ss c.self.invariant in
+    let lt : c.from.result < length hs = omega (arith, long, controllers, c.requires.known, c.from.ensures) in
+    if_some (λ n. HasListed n h h')
+    (λ n. AreListed n c.args.session c.args.self.now.posts (posts_of (slice_set hs c.from.result h') ss))
+    c.in_ok-taken.field-0.list (λ n t.
+    subst (λ (i : ℕ). AreListed n i c.args.self.now.posts (posts_of (slice_set hs c.from.result h') ss)) c.from.ensures
+    (subst (λ (e : Ends). AreListed n c.from.result e.posts (posts_of (slice_set hs c.from.result h') ss)) c.self.view_is
+    (are_listed c.self.inside.plan hs ss c.self.invariant c.from.result h lt c.index_mut.ensures.value h' n t)))
+    c.in_ok-taken.ensures.list

@@ -1,10 +1,10 @@
-use Rattle.std.proofs.Common.{List, subst, sym}
+use Rattle.std.proofs.Common.{List, is_some, subst, sym, ◌∙◌}
 use Rattle.std.proofs.lemmas.Bool.{true≢false}
 use Rattle.node_core.specs.Whole.{session_of}
 use Rattle.agent_tables.specs.Touched.{AgreeBut, RowKey}
 use Rattle.agent_node.specs.Applying.{AreLed}
 use Rattle.agent_node.specs.Core.{holdings}
-use Rattle.agent_node.proofs.Led.{of_some, tables_kept, told_kept, told_on}
+use Rattle.agent_node.proofs.Led.{by_either, have_same, of_some, tables_kept, told_kept, told_listed, told_on}
 use Rattle.agent_node.proofs.tabled.TabledEndsEnds.begin.Goals as goal
 
 pub invariant_of-self-2 : goal.invariant_of-self-2
@@ -20,11 +20,15 @@ invariant_of-self-2 c =
           (c.self.invariant.0 on)),
       λ off. absurd (true≢false (sym off)),
       λ on. told_on keys (session_of c.args.input) before after led (c.self.invariant.2 on),
+      tt,
     )
 
 pub invariant_of-self-in_default : goal.invariant_of-self-in_default
 invariant_of-self-in_default c =
     let session = session_of c.args.input in
+    let tables = c.self.inside.tables in
+    let list = c.in_ok-started.field-0.list in
+    let kept = c.in_ok-list.list in
     let before = c.self.inside.ends.posts in
     let after = c.apply-applied.new.self.posts in (
       λ on. tables_kept session before after c.self.inside.tables
@@ -36,7 +40,14 @@ invariant_of-self-in_default c =
         are = c.self.invariant.0 (c.are_both-self-inside-in_default.ensures.before on);
       },
       λ on.
-          let kept = c.in_ok-started.ensures.slice (c.are_both-self-inside-in_default-2.ensures.stay on) in
-          told_kept session before after kept.held kept.left kept.slice
-          (c.self.invariant.2 (c.are_both-self-inside-in_default-2.ensures.before on)),
+          let told = c.self.invariant.2 (c.are_both-self-inside-in_default-2.ensures.before on) in
+          by_either c.in_ok-started.field-0.slice_stays (is_some kept)
+          (sym c.wants_stay.ensures ∙ c.are_both-self-inside-in_default-2.ensures.stay on)
+          (λ stays.
+          let same = c.in_ok-started.ensures.slice stays in
+          told_kept session before after same.held same.left same.slice told)
+          (λ some. told_listed session before after tables list c.in_ok-started.ensures.list c.self.inside.current c.self.invariant.0
+          kept c.in_ok-list.ensures.list c.in_ok-list.ensures.current c.in_ok-list.ensures.needs some told),
+      have_same session before after tables list c.in_ok-started.ensures.list c.self.inside.current c.self.invariant.0
+          kept c.in_ok-list.ensures.list c.in_ok-list.ensures.current c.in_ok-list.ensures.needs,
     )

@@ -1,8 +1,10 @@
 use Rattle.std.proofs.Common.{subst, sym, ◌∙◌, ap, length}
 use Rattle.std.proofs.lemmas.Bool.{true≢false}
+use Rattle.std.specs.Option.{IfSome}
 use Rattle.node_core.specs.Plans.{ArePlans}
 use Rattle.node_laws.specs.Stepped.{AreTold}
 use Rattle.node_core.specs.NodeModel.Agent.{Holdings}
+use Rattle.agent_tables.specs.Listed.{HaveSame, list_between}
 use Rattle.agent_tables.specs.Touched.{HaveRoutes}
 use Rattle.agent_node.specs.Core.{kind}
 use Rattle.agent_node.specs.Ends.{Forwarding}
@@ -28,4 +30,7 @@ invariant_of-self-2 c =
           (sym (holdings_on before after c.in_ok-plans.plans.items c.plan.ensures.long c.in_ok-plans.ensures.plans))
           (c.self.invariant.1 on),
       λ _. told_by_plans before after c.in_ok-plans.plans.items c.plan.ensures.long c.in_ok-plans.ensures.plans,
+      subst (λ (h : Holdings). IfSome c.self.inside.list (λ n. HaveSame (list_between n) h c.self.inside.tables))
+          (sym (holdings_on before after c.in_ok-plans.plans.items c.plan.ensures.long c.in_ok-plans.ensures.plans))
+          c.self.invariant.3,
     )
