@@ -1,0 +1,19 @@
+-- Lemmas, in the order in which they stand on each other.
+pub mod SoFar
+pub mod LowStood
+pub mod ImportsStood
+pub mod ControlsStood
+pub mod AgentsStood
+pub mod WantsStood
+pub mod MomentsStood
+pub mod WithTies
+pub mod Lookups
+pub mod Walks
+pub mod Context
+pub mod Hops
+pub mod Accesses
+pub mod Trails
+pub mod Ways
+pub mod Permitted
+pub mod Placed
+pub mod Premises
