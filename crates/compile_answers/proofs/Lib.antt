@@ -1,3 +1,4 @@
 pub mod LineLemmas
 pub mod Ways
+pub mod Unfitting
 pub mod NothingLeft

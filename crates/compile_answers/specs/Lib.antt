@@ -1,4 +1,5 @@
 pub mod Lines
 pub mod Outcomes
+pub mod Spreads
 pub mod Answers
 pub mod Leaving

@@ -4,11 +4,14 @@ ghost use Rattle.config_types.specs.Form.{has_topology_form, has_config_form};
 ghost use Rattle.config_check.specs.Rules.{first_broken};
 ghost use Rattle.ov_io.specs.Inputs.{TookFront};
 ghost use Rattle.ov_io.specs.Pieces.{HasWriteCause};
-ghost use Rattle.compile_answers.specs.Answers.{DocumentAnswer, IsAnswered, WasGiven, answer_checked};
+ghost use Rattle.compile_answers.specs.Answers.{DocumentAnswer, IsAnswered, IsUnfit, WasGiven, answer_checked};
+ghost use Rattle.compile_answers.specs.Answers.{taken_valid, unfit_by};
+ghost use Rattle.compile_answers.specs.declared.unfit.Unfit.TheVariants as unfits;
 
 use config_check::{CheckRefusal, Refusal, Valid, check};
-use config_model::{CompileInput, DocFault};
+use config_model::{CompileInput, DocFault, ReadRefusal};
 use ov_io::{Sink, TextOut, WriteRefusal, write_all};
+use ov_types::NoMemory;
 use report::{doc_fault_lines, refusal_lines};
 use std::alloc::Global;
 
@@ -28,6 +31,25 @@ pub enum Unfit {
     BadDocument(DocFault),
     Refused(Refusal),
     NoMemory,
+}
+
+impl From<ReadRefusal> for Unfit {
+    ghost from_gives = { λ e unfit. unfit ≡ unfit_by e };
+
+    fn from(e: ReadRefusal) -> Unfit {
+        match e {
+            ReadRefusal::Doc(fault) => Unfit::BadDocument(fault),
+            ReadRefusal::NoMemory => Unfit::NoMemory,
+        }
+    }
+}
+
+impl From<NoMemory> for Unfit {
+    ghost from_gives = { λ _ unfit. unfit ≡ unfits.NoMemory };
+
+    fn from(_e: NoMemory) -> Unfit {
+        Unfit::NoMemory
+    }
 }
 
 /// Writes the one line of what is not fit.
@@ -66,6 +88,7 @@ pub fn write_unfit<K: Sink>(
 }
 
 /// The valid configuration that a command takes, with its topology.
+#[tactic(auto, using(crate::proofs::Unfitting::no_memory))]
 pub fn valid_of(alloc: Global, input: CompileInput) -> Result<Valid, Unfit>
     requires topology_form { IsTrue (has_topology_form input.topology) }
     requires config_form { IsTrue (has_config_form input.config) }
@@ -73,6 +96,7 @@ pub fn valid_of(alloc: Global, input: CompileInput) -> Result<Valid, Unfit>
     ensures valid { OnOk result (first_broken input.topology input.config ≡ None) }
     ensures unfit { IfErr result (λ unfit. (text : List ℕ)
         → IsAnswered unfit (answer_checked (first_broken input.topology input.config) text)) }
+    ensures untaken { IfErr result (λ unfit. IsUnfit unfit (taken_valid (λ x. x) input)) }
 {
     match check(alloc, input.topology, input.config) {
         Ok(valid) => Ok(valid),

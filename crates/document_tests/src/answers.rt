@@ -1,10 +1,9 @@
 //! What commands answer to documents.
 
 use crate::fault::CaseFault;
-use compile_answers::{answer_compile, answer_reach};
+use compile_answers::{answer_compile, answer_reach, answer_scale};
 use ov_io::{MemSink, TextOut};
 use ov_types::NoMemory;
-use scale_answers::answer_scale;
 use std::alloc::Global;
 
 /// All lines of what a command writes.
@@ -17,7 +16,7 @@ pub(crate) fn tell(
     tell_lines(alloc, command, "", document, out)
 }
 
-/// Those of what `compile` writes that begin so.
+/// The lines that `compile` writes to a document and that begin with this front.
 pub(crate) fn tell_compiled(
     alloc: Global,
     front: &str,
@@ -54,7 +53,7 @@ fn answer(
     Ok(())
 }
 
-/// The lines that begin so, with slashes between them.
+/// The lines of a text that begin with this front, with slashes between them.
 fn push_lines(text: &[u8], front: &str, out: &mut TextOut) -> Result<(), NoMemory> {
     for line in text.split(|octet| *octet == b'\n') {
         if !line.is_empty() && line.starts_with(front.as_bytes()) {

@@ -50,7 +50,7 @@ fn write_texts(
     Ok(())
 }
 
-/// So many blanks, and then a digit.
+/// An input of this many blanks, and then a digit.
 fn blanks_and_a_digit(alloc: Global, blanks: &str) -> Result<MemSource, CaseFault> {
     let mut octets = vec![in alloc; b' '; usize::from(number_of(blanks)?)]?;
     octets.push(b'0')?;

@@ -34,7 +34,7 @@ fn tell_part(alloc: Global, part: &str, value: &Value, out: &mut TextOut) -> Res
     }
 }
 
-/// The same of whole documents.
+/// What a command reads of a whole document.
 fn tell_whole(
     alloc: Global,
     command: &str,

@@ -62,7 +62,7 @@ pub(crate) fn push_reasons(alloc: Global, out: &mut TextOut) -> Result<(), NoMem
     Ok(())
 }
 
-/// The same where members are told.
+/// The line of packet 4 for each reason to drop it, as `scale` tells it.
 pub(crate) fn push_spread_reasons(alloc: Global, out: &mut TextOut) -> Result<(), NoMemory> {
     for why in &REASONS {
         let spread = Spread::Dropped { why: *why };

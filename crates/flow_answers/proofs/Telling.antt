@@ -1,6 +1,6 @@
 -- The lines of a replay, step by step.
 use Rattle.std.proofs.Common.{◌≡◌, ◌∙◌, ℕ, ◌+◌, List, ◌∷◌, ◌++◌, ap, sym}
-use Rattle.flow_script.specs.declared.step.FlowStep.{FlowStep}
+use Rattle.flow_state.specs.declared.step.FlowStep.{FlowStep}
 use Rattle.flow_state.specs.Playing.{Playing, answer_in, answers_in, played}
 use Rattle.flow_state.specs.declared.answer.FlowAnswer.{FlowAnswer}
 use Rattle.flow_answers.specs.Lines.{flow_line, lines_from}

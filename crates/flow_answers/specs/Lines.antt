@@ -4,7 +4,7 @@ use Rattle.config_check.specs.Checked.{Checked}
 use Rattle.run_ties.specs.Texts.{tie_text}
 use Rattle.run_ties.specs.declared.edits.TiedFault.{TiedFault}
 use Rattle.run_ties.specs.declared.edits.TiedFault.TheVariants.{Edit, Tied}
-use Rattle.flow_script.specs.declared.step.FlowStep.{FlowStep}
+use Rattle.flow_state.specs.declared.step.FlowStep.{FlowStep}
 use Rattle.flow_state.specs.declared.answer.FlowAnswer.{FlowAnswer}
 use Rattle.flow_state.specs.declared.answer.FlowAnswer.TheVariants.{Edited, Refused, Traced}
 use Rattle.flow_state.specs.Replay.{answers, at_start}

@@ -4,14 +4,13 @@ ghost use Rattle.std.specs.Io.KnownBytes.{Appends};
 ghost use Rattle.std.specs.List.{list_all};
 ghost use Rattle.ov_io.specs.Inputs.{TookFront};
 ghost use Rattle.ov_io.specs.Pieces.{HasWriteCause};
-ghost use Rattle.flow_script.specs.Steps.{has_step_form};
+ghost use Rattle.flow_state.specs.Steps.{has_step_form};
 ghost use Rattle.flow_state.specs.Playing.{answers_in, playing};
 ghost use Rattle.flow_answers.specs.Lines.{flows_text, lines_from};
 
 use crate::lines::push_answer;
 use config_check::Valid;
-use flow_script::FlowStep;
-use flow_state::Player;
+use flow_state::{FlowStep, Player};
 use ov_io::{Sink, TextOut, WriteRefusal, write_gathered, write_piece};
 use std::alloc::Global;
 

@@ -8,8 +8,8 @@ use Rattle.run_ties.specs.Tied.{tied_fault}
 use Rattle.run_ties.specs.Tying.{joined}
 use Rattle.run_ties.specs.declared.edits.TiedFault.{TiedFault}
 use Rattle.flow_state.specs.declared.flow.Flow.{Flow}
-use Rattle.flow_script.specs.declared.step.FlowStep.{FlowStep}
-use Rattle.flow_script.specs.declared.step.FlowStep.TheVariants as Steps
+use Rattle.flow_state.specs.declared.step.FlowStep.{FlowStep}
+use Rattle.flow_state.specs.declared.step.FlowStep.TheVariants as Steps
 use Rattle.flow_state.specs.declared.answer.FlowAnswer.TheVariants.{Traced}
 use Rattle.flow_state.specs.Recent.{same_flow, without, each_once, recent, after_use}
 use Rattle.flow_state.specs.Flows.{flow_outcome, flow_use}

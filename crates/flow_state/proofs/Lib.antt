@@ -1,8 +1,11 @@
 pub mod Back
+pub mod Faults
 pub mod Follow
+pub mod Just
 pub mod Kept
 pub mod Moments
 pub mod Permits
+pub mod Read
 pub mod Recent
 pub mod Replies
 pub mod Short

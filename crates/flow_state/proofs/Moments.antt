@@ -19,9 +19,9 @@ use Rattle.config_check.proofs.Edited.{form_is_kept}
 use Rattle.run_ties.specs.declared.edits.TiedFault.{TiedFault}
 use Rattle.run_ties.specs.declared.edits.TiedFault.TheVariants.{Edit as Faulty}
 use Rattle.reach_plain.specs.Reachability.{reachability}
-use Rattle.flow_script.specs.Steps.{has_step_form}
-use Rattle.flow_script.specs.declared.step.FlowStep.{FlowStep}
-use Rattle.flow_script.specs.declared.step.FlowStep.TheVariants as Steps
+use Rattle.flow_state.specs.Steps.{has_step_form}
+use Rattle.flow_state.specs.declared.step.FlowStep.{FlowStep}
+use Rattle.flow_state.specs.declared.step.FlowStep.TheVariants as Steps
 use Rattle.flow_state.specs.declared.flow.Flow.{Flow}
 use Rattle.flow_state.specs.Recent.{each_once}
 use Rattle.flow_state.specs.Flows.{PermitsOneWay, flow_outcome, flow_use}

@@ -13,8 +13,8 @@ use Rattle.config_types.specs.Form.{has_config_form}
 use Rattle.config_types.specs.declared.config.Config.{Config}
 use Rattle.config_check.specs.Rules.{first_broken}
 use Rattle.reach_plain.specs.Reachability.{reachability}
-use Rattle.flow_script.specs.declared.step.FlowStep.{FlowStep}
-use Rattle.flow_script.specs.declared.step.FlowStep.TheVariants as Steps
+use Rattle.flow_state.specs.declared.step.FlowStep.{FlowStep}
+use Rattle.flow_state.specs.declared.step.FlowStep.TheVariants as Steps
 use Rattle.flow_state.specs.declared.flow.Flow.{Flow}
 use Rattle.flow_state.specs.Flows.{PermitsOneWay, forward_packet, reply_packet}
 use Rattle.flow_state.specs.Recent.{each_once}

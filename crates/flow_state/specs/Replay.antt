@@ -7,8 +7,8 @@ use Rattle.run_ties.specs.Ties.{Ties}
 use Rattle.run_ties.specs.Tied.{tied_fault}
 use Rattle.run_ties.specs.Tying.{joined, ties_of}
 use Rattle.run_ties.specs.declared.edits.TiedFault.{TiedFault}
-use Rattle.flow_script.specs.declared.step.FlowStep.{FlowStep}
-use Rattle.flow_script.specs.declared.step.FlowStep.TheVariants as Steps
+use Rattle.flow_state.specs.declared.step.FlowStep.{FlowStep}
+use Rattle.flow_state.specs.declared.step.FlowStep.TheVariants as Steps
 use Rattle.flow_state.specs.declared.flow.Flow.{Flow}
 use Rattle.flow_state.specs.Recent.{recent}
 use Rattle.flow_state.specs.Flows.{flow_outcome, flow_use}

@@ -1,5 +1,5 @@
 //! Replies: where a rule of one direction lets a packet through, what answers it passes too, while its flow stands in a
-//! table of bounded size.
+//! table of bounded size. Steps of a replay of flows, their written form, and the exact reader of it.
 #![tactic(auto)]
 
 mod answer;
@@ -7,6 +7,9 @@ mod flow;
 pub mod laws;
 mod passing;
 mod player;
+mod script_laws;
+mod script_reader;
+mod step;
 mod table;
 mod towards;
 mod uses;
@@ -14,4 +17,9 @@ mod uses;
 pub use answer::FlowAnswer;
 pub use flow::Flow;
 pub use player::Player;
+pub use script_laws::{
+    steps_are_read, steps_have_just_their_members, steps_have_one_member, texts_are_no_steps,
+};
+pub use script_reader::read_flows;
+pub use step::{FlowStep, FlowsInput};
 pub use table::FlowTable;

@@ -1,11 +1,9 @@
 //! What becomes of packets beside a table of flows.
 ghost use Rattle.std.specs.Prelude.{◌≡◌, ◌≤◌, length, reverse, Some, None, IfOk, OnOk, OnErr};
 ghost use Rattle.std.specs.List.{All};
-ghost use Rattle.policy_rules.specs.Answering.{answering};
 ghost use Rattle.reach_plain.specs.Reachability.{reachability};
 ghost use Rattle.flow_state.specs.Flows.{IsShort, PermitsOneWay, answered, back_through, candidate, flow_outcome};
-ghost use Rattle.flow_state.specs.Flows.{flow_use, forward_packet, let_back, outcome_beside, returned, standing};
-ghost use Rattle.flow_state.specs.Flows.{use_beside};
+ghost use Rattle.flow_state.specs.Flows.{flow_use, forward_packet, let_back, outcome_beside, standing, use_beside};
 ghost use Rattle.flow_state.specs.Recent.{after_use};
 
 use crate::flow::Flow;
@@ -15,16 +13,6 @@ use crate::uses::{forward_use, network_of};
 use config_check::{Valid, port_at, port_numbered};
 use ov_types::{NoMemory, Outcome, Packet, PortNo, Services, Tuple, Why};
 use reach_plain::reach;
-
-fn answering(tuple: Tuple) -> Tuple
-    ensures { result ≡ answering tuple }
-{
-    Tuple {
-        proto: tuple.proto,
-        sport: tuple.dport,
-        dport: tuple.sport,
-    }
-}
 
 /// The flow that a packet would be the reply of.
 #[tactic(auto, unfolding(crate::specs::Flows::candidate))]
@@ -44,7 +32,11 @@ fn candidate(valid: &Valid, packet: Packet) -> Option<Flow>
     Some(Flow {
         source: port.id,
         target: packet.source,
-        tuple: answering(packet.tuple),
+        tuple: Tuple {
+            proto: packet.tuple.proto,
+            sport: packet.tuple.dport,
+            dport: packet.tuple.sport,
+        },
     })
 }
 
@@ -53,10 +45,12 @@ fn short_reach(valid: &Valid, packet: Packet) -> Outcome
     ensures plain { result ≡ reachability valid.now.config packet }
     ensures short { IsShort result }
 {
+    // What is known of a valid configuration comes with this read.
     let _config = valid.config();
     reach(valid, packet)
 }
 
+/// The packet that a flow goes out by.
 fn forward_packet(valid: &Valid, flow: &Flow) -> Option<Packet>
     ensures { result ≡ forward_packet valid.now.config flow.now }
 {
@@ -81,6 +75,7 @@ fn reversed(services: &Services<64>) -> Services<64>
     back
 }
 
+/// An outcome on the way back to a port.
 fn back_through(source: PortNo, forward: Outcome) -> Outcome
     requires { IsShort forward }
     ensures { result ≡ back_through source forward }
@@ -94,25 +89,20 @@ fn back_through(source: PortNo, forward: Outcome) -> Outcome
     }
 }
 
-/// What becomes of a flow's reply.
-fn returned(valid: &Valid, flow: &Flow, plain: Outcome) -> Outcome
-    ensures { result ≡ returned valid.now.config flow.now plain }
+/// What becomes of a packet where it passes back as the reply of a flow, or of none.
+fn outcome_beside(valid: &Valid, plain: Outcome, back: Option<Flow>) -> Outcome
+    ensures { result ≡ outcome_beside valid.now.config plain back }
 {
-    match forward_packet(valid, flow) {
+    let Some(flow) = back else {
+        return plain;
+    };
+    match forward_packet(valid, &flow) {
         Some(packet) => back_through(flow.source, short_reach(valid, packet)),
         None => plain,
     }
 }
 
-fn outcome_beside(valid: &Valid, plain: Outcome, back: Option<Flow>) -> Outcome
-    ensures { result ≡ outcome_beside valid.now.config plain back }
-{
-    match back {
-        Some(flow) => returned(valid, &flow, plain),
-        None => plain,
-    }
-}
-
+/// The flow that a packet uses, where it passes back as the reply of one, or of none.
 fn use_beside(valid: &Valid, packet: Packet, plain: &Outcome, back: Option<Flow>) -> Option<Flow>
     ensures { result ≡ use_beside valid.now.config packet plain.now back }
 {
@@ -123,6 +113,7 @@ fn use_beside(valid: &Valid, packet: Packet, plain: &Outcome, back: Option<Flow>
 }
 
 impl FlowTable {
+    /// A flow, where it stands in the table.
     fn standing(&self, flow: Option<Flow>) -> Option<Flow>
         ensures { result ≡ standing flow self.now.flows }
     {
@@ -137,6 +128,7 @@ impl FlowTable {
         requires kept { All (PermitsOneWay valid.now.config) self.now.flows }
         ensures { result ≡ answered valid.now.config self.now.flows packet }
     {
+        // What is known of a valid configuration comes with this read.
         let _config = valid.config();
         self.standing(candidate(valid, packet))
     }
@@ -154,6 +146,7 @@ impl FlowTable {
         }
     }
 
+    /// The table after a packet used a flow, or none.
     fn after_use(&mut self, used: Option<Flow>) -> Result<(), NoMemory>
         ensures ok { OnOk result (self.new ≡ record { capacity = self.old.capacity; flows = after_use self.old.capacity used self.old.flows }) }
         ensures err { OnErr result (self.new ≡ self.old) }
@@ -179,6 +172,7 @@ impl FlowTable {
         ensures kept { OnOk result (All (PermitsOneWay valid.now.config) self.new.flows) }
         ensures err { OnErr result (self.new ≡ self.old) }
     {
+        // What is known of a valid configuration comes with this read.
         let _config = valid.config();
         let plain = reach(valid, packet);
         let back = self.let_back(valid, packet, &plain);

@@ -1,16 +1,16 @@
 //! A replay of steps.
 ghost use Rattle.std.specs.Prelude.{◌≡◌, ◌<◌, List, IsTrue, IfOk, OnOk, OnErr};
 ghost use Rattle.config_types.specs.Form.{has_edit_form};
-ghost use Rattle.flow_script.specs.Steps.{has_step_form};
-ghost use Rattle.flow_script.specs.declared.step.FlowStep.{FlowStep as Asked};
+ghost use Rattle.flow_state.specs.Steps.{has_step_form};
+ghost use Rattle.flow_state.specs.declared.step.FlowStep.{FlowStep as Asked};
 ghost use Rattle.flow_state.specs.Playing.{answer_in, answers_in, fault_in, opening, played, played_edit, playing};
 ghost use Rattle.flow_state.specs.Replay.{answers, at_start, edit_answer};
 
 use crate::answer::FlowAnswer;
+use crate::step::FlowStep;
 use crate::table::FlowTable;
 use config_check::Valid;
 use config_types::Edit;
-use flow_script::FlowStep;
 use ov_types::NoMemory;
 use run_ties::{TiedRefusal, Ties, apply_tied_edit};
 use std::alloc::Global;
@@ -50,6 +50,7 @@ impl Player {
         Ok(Player { valid, ties, table })
     }
 
+    /// The configuration is edited, and the table emptied, where the edit is made.
     #[tactic(auto, using(crate::proofs::Kept::goes_on))]
     fn edit(&mut self, alloc: Global, edit: &Edit) -> Result<FlowAnswer, NoMemory>
         requires { IsTrue (has_edit_form edit.now) }
@@ -71,7 +72,7 @@ impl Player {
     }
 
     /// The next step is done, and answered. On want of memory all stays as it is.
-    #[tactic(auto, unfolding(flow_script::specs::Steps::has_step_form))]
+    #[tactic(auto, unfolding(crate::specs::Steps::has_step_form))]
     pub fn step(&mut self, alloc: Global, step: &FlowStep) -> Result<FlowAnswer, NoMemory>
         requires { IsTrue (has_step_form step.now) }
         ensures answer { IfOk result (λ a. a ≡ answer_in step.now (playing self.old)) }

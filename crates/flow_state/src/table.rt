@@ -1,6 +1,5 @@
 //! The table of flows.
 ghost use Rattle.std.specs.Prelude.{◌≡◌, ◌<◌, [], ◌∷◌, IfOk, OnOk, OnErr};
-ghost use Rattle.std.specs.NonZero.{non_zero_usize_get};
 ghost use Rattle.std.specs.List.{list_any};
 ghost use Rattle.flow_state.specs.Recent.{Flows, recent, same_flow};
 
@@ -27,23 +26,16 @@ impl Model for FlowTable {
     ghost view = { λ t. record { capacity = t.kept.cap; flows = keys_of t.kept.entries } };
 }
 
-fn room(capacity: u16) -> NonZeroUsize
-    requires { 0 < capacity }
-    ensures { non_zero_usize_get result ≡ capacity }
-{
-    match NonZeroUsize::new(usize::from(capacity)) {
-        Some(room) => room,
-        None => unreachable!(),
-    }
-}
-
 impl FlowTable {
     /// An empty table for so many flows.
     pub fn new(alloc: Global, capacity: u16) -> Result<FlowTable, NoMemory>
         requires { 0 < capacity }
         ensures { IfOk result (λ t. t ≡ record { capacity = capacity; flows = [] }) }
     {
-        let kept = LruCache::sparse(alloc, room(capacity))?;
+        let Some(room) = NonZeroUsize::new(usize::from(capacity)) else {
+            unreachable!()
+        };
+        let kept = LruCache::sparse(alloc, room)?;
         Ok(FlowTable { kept })
     }
 
@@ -53,6 +45,7 @@ impl FlowTable {
             ≡ record { capacity = self.old.capacity; flows = recent self.old.capacity (flow ∷ self.old.flows) }) }
         ensures err { OnErr result (self.new ≡ self.old) }
     {
+        // What is known of the cache, as that it holds no flow twice, comes with this read.
         let _count = self.kept.len();
         self.kept.put(flow, ())?;
         Ok(())

@@ -10,6 +10,7 @@ use config_types::{Config, Network};
 use ov_types::Addr;
 use policy_rules::are_related;
 
+/// Whether a network is the one that packets come from, or related to it, and holds an address.
 fn is_towards(config: &Config, from: &Network, other: &Network, address: Addr) -> bool
     ensures { result ≡ ((same_name other.now.name from.now.name || are_related config.now from.now other.now)
         && holds_address other.now address.0) }
@@ -18,7 +19,7 @@ fn is_towards(config: &Config, from: &Network, other: &Network, address: Addr) -
     is_near && holds_address(other, address)
 }
 
-/// Of a network and those related to it the one whose subnet holds an address. It takes no memory.
+/// The network whose subnet holds an address, among a network and those related to it. The search takes no memory.
 pub(crate) fn network_towards<'a>(
     config: &'a Config,
     from: &Network,

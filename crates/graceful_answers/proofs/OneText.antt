@@ -14,9 +14,9 @@ use Rattle.bgp_restart.specs.Events.{RestartEvent, Opened, Closed, Updated, is_u
 use Rattle.bgp_restart.specs.Keeping.{row_of, IsUpdate}
 use Rattle.bgp_restart.proofs.Owning.{key_total, key_exact}
 use Rattle.report.specs.Restarts.{faulty_line, show_line}
-use Rattle.graceful_log.specs.declared.entry.LogEntry.{LogEntry}
-use Rattle.graceful_log.specs.declared.entry.LogEntry.TheVariants as entry
-use Rattle.graceful_log.specs.OneMessage.{IsOneOpen, IsOneUpdate}
+use Rattle.graceful_answers.specs.declared.entry.LogEntry.{LogEntry}
+use Rattle.graceful_answers.specs.declared.entry.LogEntry.TheVariants as entry
+use Rattle.graceful_answers.specs.OneMessage.{IsOneOpen, IsOneUpdate}
 use Rattle.graceful_answers.specs.Logs.{opening_of, reads_wide, row_lines, IsHeldText, IsDone, IsIdle, IsFaulty, IsShown, AnswersOpen, AnswersParts, AnswersUpdate, AnswersClose, Answers, IsLogText}
 
 -- one text, and the same events after it

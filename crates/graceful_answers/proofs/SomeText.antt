@@ -29,10 +29,10 @@ use Rattle.bgp_restart.specs.Events.{RestartEvent, Opened, Closed, Expired, Upda
 use Rattle.bgp_restart.specs.Keeping.{held_at, left_over, says_kept, marked, row_of, IsUpdate}
 use Rattle.bgp_restart.proofs.Owning.{key_total, key_exact, own_none, changed-append}
 use Rattle.report.specs.Restarts.{did_line, idle_line, faulty_line, show_line}
-use Rattle.graceful_log.specs.declared.entry.LogEntry.{LogEntry}
-use Rattle.graceful_log.specs.declared.entry.LogEntry.TheVariants as entry
-use Rattle.graceful_log.specs.Entries.{HasEntryForm}
-use Rattle.graceful_log.specs.OneMessage.{IsOneOpen, IsOneUpdate}
+use Rattle.graceful_answers.specs.declared.entry.LogEntry.{LogEntry}
+use Rattle.graceful_answers.specs.declared.entry.LogEntry.TheVariants as entry
+use Rattle.graceful_answers.specs.Entries.{HasEntryForm}
+use Rattle.graceful_answers.specs.OneMessage.{IsOneOpen, IsOneUpdate}
 use Rattle.graceful_answers.specs.Logs.{opening_of, reads_wide, row_lines, IsHeldText, AnswersOpen, AnswersParts, AnswersUpdate, AnswersClose, Answers, IsLogText}
 
 -- ---- whether an UPDATE marks the end of the first routes can be told

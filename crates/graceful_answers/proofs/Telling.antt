@@ -15,10 +15,10 @@ use Rattle.bgp_vpn.specs.Updates.{HasUpdateFault}
 use Rattle.bgp_restart.specs.Events.{RestartEvent, Opened, Closed, Expired, Updated, is_up, opening}
 use Rattle.bgp_restart.specs.Keeping.{Kept, StandsFor, Follows, IsUpdate, AreRows}
 use Rattle.report.specs.Restarts.{did_line, faulty_line, show_line}
-use Rattle.graceful_log.specs.declared.entry.LogEntry.{LogEntry}
-use Rattle.graceful_log.specs.declared.entry.LogEntry.TheVariants as entry
-use Rattle.graceful_log.specs.Entries.{HasEntryForm}
-use Rattle.graceful_log.specs.OneMessage.{IsOneUpdate}
+use Rattle.graceful_answers.specs.declared.entry.LogEntry.{LogEntry}
+use Rattle.graceful_answers.specs.declared.entry.LogEntry.TheVariants as entry
+use Rattle.graceful_answers.specs.Entries.{HasEntryForm}
+use Rattle.graceful_answers.specs.OneMessage.{IsOneUpdate}
 use Rattle.graceful_answers.specs.Logs.{reads_wide, row_lines, AnswersParts, AnswersUpdate, IsLogText}
 use Rattle.graceful_answers.specs.Progress.{Steps}
 use Rattle.graceful_answers.proofs.SomeText.{some_text}

@@ -15,9 +15,9 @@ use Rattle.bgp_restart.specs.Marks.{named, kept}
 use Rattle.bgp_restart.specs.Events.{Opening, RestartEvent, Opened, Closed, Expired, is_up, opening, key_order}
 use Rattle.bgp_restart.specs.Keeping.{held_at, row_of, IsUpdate}
 use Rattle.report.specs.Restarts.{did_line, idle_line, faulty_line, show_line, held_line}
-use Rattle.graceful_log.specs.declared.entry.LogEntry.{LogEntry}
-use Rattle.graceful_log.specs.declared.entry.LogEntry.TheVariants as entry
-use Rattle.graceful_log.specs.OneMessage.{IsOneOpen, IsOneUpdate}
+use Rattle.graceful_answers.specs.declared.entry.LogEntry.{LogEntry}
+use Rattle.graceful_answers.specs.declared.entry.LogEntry.TheVariants as entry
+use Rattle.graceful_answers.specs.OneMessage.{IsOneOpen, IsOneUpdate}
 
 -- what an OPEN says of the session that it opens
 abbrev pub opening_of : OpenFields → Opening

@@ -3,7 +3,7 @@ use Rattle.std.specs.Prelude.{◌≡◌, ℕ, ◌+◌, List, [], ◌∷◌, ◌+
 use Rattle.ov_io.specs.Pieces.{IsOnItsWay}
 use Rattle.bgp_restart.specs.Events.{RestartEvent}
 use Rattle.bgp_restart.specs.Keeping.{Kept, StandsFor}
-use Rattle.graceful_log.specs.declared.entry.LogEntry.{LogEntry}
+use Rattle.graceful_answers.specs.declared.entry.LogEntry.{LogEntry}
 use Rattle.graceful_answers.specs.Logs.{Answers, IsLogText}
 
 -- an entry was answered, so that what it answers was appended, and what is held is that of the events after it
@@ -14,7 +14,7 @@ pub record WasAnswered (events : List RestartEvent) (n : ℕ) (entry : LogEntry)
   pub stands : StandsFor after new
   pub appended : text ≡ before ++ said
 
--- the same after whatever events what was held stands for
+-- an entry was answered, after whatever events what was held stands for
 abbrev pub Steps : Kept → ℕ → LogEntry → Kept → List ℕ → List ℕ → Type 0
 Steps old n entry new before text =
     (events : List RestartEvent) → StandsFor events old → WasAnswered events n entry new before text

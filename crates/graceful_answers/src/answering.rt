@@ -1,49 +1,42 @@
 //! The answer of `graceful`.
-ghost use Rattle.std.specs.Prelude.{◌≡◌, ◌≢◌, Some, Ok, IfOk, IfErr, OnOk, OnErr};
+ghost use Rattle.std.specs.Prelude.{◌≡◌, ◌≢◌, [], Ok, IfOk, OnOk, OnErr};
 ghost use Rattle.std.specs.List.{AllByRecursion};
-ghost use Rattle.serde_json.specs.View.{view};
 ghost use Rattle.ov_io.specs.Pieces.{HasWriteCause, TookFrontOf, TookText};
-ghost use Rattle.graceful_log.specs.Entries.{HasEntryForm};
-ghost use Rattle.graceful_answers.specs.Answers.{IsUnfit, TookLog, WritesLog, graceful_verdict, log_in, of_value};
+ghost use Rattle.graceful_answers.specs.Entries.{HasEntryForm};
+ghost use Rattle.graceful_answers.specs.Reading.{log_at};
+ghost use Rattle.graceful_answers.specs.Answers.{TookLog, WritesLog, graceful_verdict, log_in, log_taken};
 
+use crate::entry::LogEntry;
+use crate::log_reader::read_log;
 use crate::replaying::write_log;
-use compile_answers::{Reception, Unfit, write_unfit};
-use config_model::ReadRefusal;
-use graceful_log::{LogEntry, read_log};
+use compile_answers::{Question, Reception, Unfit, read_question, write_unfit};
 use ov_io::{Sink, WriteRefusal};
-use ov_json::value_of;
-use ov_types::{Items, NoMemory};
+use ov_types::Items;
 use serde_json::Value;
 use std::alloc::Global;
 
-/// The log that a value is.
-fn log_of(alloc: Global, value: &Value) -> Result<Items<LogEntry>, Unfit>
-    ensures fit { IfOk result (λ log. of_value (Some (view value.now)) ≡ Ok log) }
-    ensures form { IfOk result (λ log. AllByRecursion HasEntryForm log) }
-    ensures unfit { IfErr result (λ unfit. IsUnfit unfit (of_value (Some (view value.now)))) }
-{
-    match read_log(alloc, value) {
-        Ok(log) => Ok(log),
-        Err(ReadRefusal::Doc(fault)) => Err(Unfit::BadDocument(fault)),
-        Err(ReadRefusal::NoMemory) => Err(Unfit::NoMemory),
-    }
+/// The log of a session.
+#[derive(Drop)]
+struct Log {
+    entries: Items<LogEntry>,
 }
 
-/// The log that an input is.
-#[tactic(auto, unfolding(crate::specs::Answers::log_in))]
-fn log_in(alloc: Global, octets: &[u8]) -> Result<Items<LogEntry>, Unfit>
-    ensures fit { IfOk result (λ log. log_in octets.now ≡ Ok log) }
-    ensures form { IfOk result (λ log. AllByRecursion HasEntryForm log) }
-    ensures unfit { IfErr result (λ unfit. IsUnfit unfit (log_in octets.now)) }
-{
-    match value_of(alloc, octets) {
-        Ok(Some(value)) => log_of(alloc, &value),
-        Ok(None) => Err(Unfit::NotJson),
-        Err(NoMemory) => Err(Unfit::NoMemory),
+impl Question for Log {
+    ghost taken = { log_taken };
+
+    ghost reads = { λ d log. log_at [] d ≡ Ok log.entries };
+
+    ghost form = { λ log. AllByRecursion HasEntryForm log.entries };
+
+    #[tactic(auto, using(compile_answers::proofs::Unfitting::fault_unfit), unfolding(crate::specs::Answers::log_taken))]
+    fn from_value(alloc: Global, value: &Value) -> Result<Self, Unfit> {
+        let entries = read_log(alloc, value)?;
+        Ok(Log { entries })
     }
 }
 
 /// Writes what `graceful` answers to an input.
+#[tactic(auto, unfolding(crate::specs::Answers::log_in))]
 pub fn answer_graceful<K: Sink>(
     alloc: Global,
     octets: &[u8],
@@ -58,9 +51,9 @@ pub fn answer_graceful<K: Sink>(
     ensures promise { IfOk result (λ verdict. verdict ≡ Reception.Good
         → TookLog octets.now (K.taken sink.old) (K.taken sink.new)) }
 {
-    match log_in(alloc, octets) {
+    match read_question::<Log>(alloc, octets) {
         Ok(log) => {
-            write_log(alloc, log.as_slice(), sink)?;
+            write_log(alloc, log.entries.as_slice(), sink)?;
             Ok(Reception::Good)
         }
         Err(unfit) => write_unfit(alloc, unfit, sink),

@@ -3,16 +3,16 @@ ghost use Rattle.std.specs.Prelude.{◌≡◌, ◌++◌, OnOk, length};
 ghost use Rattle.bgp_wire.specs.Content.{Content, OpenFields, UpdateFields};
 ghost use Rattle.bgp_wire.specs.Messages.{BeginsWith, content_of};
 ghost use Rattle.bgp_vpn.specs.Updates.{parts_of};
-ghost use Rattle.graceful_log.specs.declared.entry.LogEntry.TheVariants as entry;
-ghost use Rattle.graceful_log.specs.Entries.{HasEntryForm};
-ghost use Rattle.graceful_log.specs.OneMessage.{IsOneOpen, IsOneUpdate};
+ghost use Rattle.graceful_answers.specs.declared.entry.LogEntry.TheVariants as entry;
+ghost use Rattle.graceful_answers.specs.Entries.{HasEntryForm};
+ghost use Rattle.graceful_answers.specs.OneMessage.{IsOneOpen, IsOneUpdate};
 ghost use Rattle.graceful_answers.specs.Logs.{row_lines};
 ghost use Rattle.graceful_answers.specs.Progress.{Steps};
 
+use crate::entry::LogEntry;
 use bgp_restart::{Restart, kept, named};
 use bgp_vpn::UpdateFault;
 use bgp_wire::{Message, OpenPart, UpdatePart, read_message};
-use graceful_log::LogEntry;
 use ov_io::TextOut;
 use ov_types::{NoMemory, VpnKey, VpnRoute};
 use report::{did_lines, faulty_lines, held_lines, idle_lines, show_lines};
@@ -54,6 +54,7 @@ fn update_in(octets: &[u8]) -> UpdatePart<'_>
     }
 }
 
+/// Appends what an OPEN answers: where the session is up it is passed over.
 fn push_opened(
     alloc: Global,
     octets: &[u8],
@@ -72,6 +73,7 @@ fn push_opened(
     did_lines(alloc, number, out)
 }
 
+/// Appends what an UPDATE answers: where the session is down it is passed over.
 fn push_updated(
     alloc: Global,
     octets: &[u8],
@@ -94,33 +96,7 @@ fn push_updated(
     }
 }
 
-fn push_closed(
-    alloc: Global,
-    number: usize,
-    restart: &mut Restart,
-    out: &mut TextOut,
-) -> Result<(), NoMemory>
-    ensures { OnOk result (Steps restart.old number entry.Closed restart.new out.old out.new) }
-{
-    if !restart.is_up() {
-        return idle_lines(alloc, number, out);
-    }
-    restart.closed();
-    did_lines(alloc, number, out)
-}
-
-fn push_expired(
-    alloc: Global,
-    number: usize,
-    restart: &mut Restart,
-    out: &mut TextOut,
-) -> Result<(), NoMemory>
-    ensures { OnOk result (Steps restart.old number entry.Expired restart.new out.old out.new) }
-{
-    restart.expired();
-    did_lines(alloc, number, out)
-}
-
+/// Appends the lines of routes, each with whether it is stale.
 fn push_rows(
     alloc: Global,
     rows: &[(VpnKey, VpnRoute, bool)],
@@ -134,6 +110,7 @@ fn push_rows(
     Ok(())
 }
 
+/// Appends what is held now.
 fn push_shown(
     alloc: Global,
     number: usize,
@@ -161,8 +138,17 @@ pub(crate) fn push_entry(
     match entry {
         LogEntry::Opened(octets) => push_opened(alloc, octets.as_slice(), number, restart, out),
         LogEntry::Updated(octets) => push_updated(alloc, octets.as_slice(), number, restart, out),
-        LogEntry::Closed => push_closed(alloc, number, restart, out),
-        LogEntry::Expired => push_expired(alloc, number, restart, out),
+        LogEntry::Closed => {
+            if !restart.is_up() {
+                return idle_lines(alloc, number, out);
+            }
+            restart.closed();
+            did_lines(alloc, number, out)
+        }
+        LogEntry::Expired => {
+            restart.expired();
+            did_lines(alloc, number, out)
+        }
         LogEntry::Show => push_shown(alloc, number, restart, out),
     }
 }

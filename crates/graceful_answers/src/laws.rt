@@ -2,8 +2,8 @@
 ghost use Rattle.std.specs.Prelude.{◌≡◌, ℕ, List};
 ghost use Rattle.std.specs.List.{AllByRecursion};
 ghost use Rattle.bgp_restart.specs.Events.{RestartEvent};
-ghost use Rattle.graceful_log.specs.declared.entry.LogEntry.{LogEntry};
-ghost use Rattle.graceful_log.specs.Entries.{HasEntryForm};
+ghost use Rattle.graceful_answers.specs.declared.entry.LogEntry.{LogEntry};
+ghost use Rattle.graceful_answers.specs.Entries.{HasEntryForm};
 ghost use Rattle.graceful_answers.specs.Logs.{IsLogText};
 
 /// A log is always answered: whatever came before it and whatever number its first entry has, there is a text of it.

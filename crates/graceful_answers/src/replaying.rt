@@ -3,12 +3,12 @@ ghost use Rattle.std.specs.Prelude.{◌≡◌, [], IfOk, OnOk, OnErr};
 ghost use Rattle.std.specs.List.{AllByRecursion};
 ghost use Rattle.ov_io.specs.Pieces.{HasWriteCause, TookFrontOf, TookText};
 ghost use Rattle.bgp_restart.specs.Keeping.{StandsFor};
-ghost use Rattle.graceful_log.specs.Entries.{HasEntryForm};
+ghost use Rattle.graceful_answers.specs.Entries.{HasEntryForm};
 ghost use Rattle.graceful_answers.specs.Logs.{IsLogText};
 
 use crate::entries::push_entry;
+use crate::entry::LogEntry;
 use bgp_restart::Restart;
-use graceful_log::LogEntry;
 use ov_io::{Sink, TextOut, WriteRefusal, write_gathered, write_piece};
 use std::alloc::Global;
 

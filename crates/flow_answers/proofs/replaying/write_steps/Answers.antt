@@ -5,8 +5,8 @@ use Rattle.std.proofs.lemmas.Bool.{and_parts}
 use Rattle.ov_io.proofs.PieceLemmas.{cause_from, ends_cut, ends_whole, on_err, took_nothing, way_breaks, way_cut, way_goes_on}
 use Rattle.ov_io.specs.Inputs.{TookFront}
 use Rattle.ov_io.specs.Pieces.{IsOnItsWay}
-use Rattle.flow_script.specs.Steps.{has_step_form}
-use Rattle.flow_script.specs.declared.step.FlowStep.{FlowStep}
+use Rattle.flow_state.specs.Steps.{has_step_form}
+use Rattle.flow_state.specs.declared.step.FlowStep.{FlowStep}
 use Rattle.flow_answers.proofs.Telling.{first_line}
 use Rattle.flow_answers.proofs.replaying.write_steps.Goals as goal
 

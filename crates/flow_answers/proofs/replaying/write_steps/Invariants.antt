@@ -1,7 +1,7 @@
 use Rattle.std.proofs.Common.{◌≡◌, ◌+◌, drop, true}
 use Rattle.std.specs.List.{list_all}
 use Rattle.ov_io.specs.Pieces.{IsOnItsWay}
-use Rattle.flow_script.specs.Steps.{has_step_form}
+use Rattle.flow_state.specs.Steps.{has_step_form}
 use Rattle.flow_state.specs.Playing.{answers_in, playing}
 use Rattle.flow_answers.specs.Lines.{lines_from}
 use Rattle.flow_answers.proofs.replaying.write_steps.Given as goal

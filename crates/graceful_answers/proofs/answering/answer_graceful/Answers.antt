@@ -1,18 +1,20 @@
 use Rattle.std.proofs.Common.{List, [], subst}
 use Rattle.ov_io.specs.Pieces.{TookText}
-use Rattle.graceful_log.specs.declared.entry.LogEntry.{LogEntry}
+use Rattle.graceful_answers.specs.declared.entry.LogEntry.{LogEntry}
 use Rattle.graceful_answers.specs.Logs.{IsLogText}
 use Rattle.graceful_answers.specs.Answers.{log_in}
-use Rattle.graceful_answers.proofs.Written.{answers, are_log, some_written, verdict_given, unrefused_given, text_given, front_given}
+use Rattle.graceful_answers.proofs.Written.{answers, some_written, verdict_given, unrefused_given, text_given, front_given}
 use Rattle.graceful_answers.proofs.answering.answer_graceful.Goals as goal
 
 pub returns-in-Err-clause-verdict : goal.returns-in-Err-clause-verdict
+unfolding log_in
 returns-in-Err-clause-verdict g c =
     let said = some_written c.args.octets.now in
     verdict_given c.write_unfit.result (log_in c.args.octets.now) said.0 (g.K.Sink.taken c.args.sink.now) (g.K.Sink.taken c.write_unfit.new.sink)
     (c.write_unfit.ensures.given _ (answers c.in-Err.unfit _ said.0 c.in-Err.ensures.unfit said.1))
 
 pub returns-in-Err-clause-unrefused : goal.returns-in-Err-clause-unrefused
+unfolding log_in
 returns-in-Err-clause-unrefused g c =
     let said = some_written c.args.octets.now in
     unrefused_given c.write_unfit.result c.args.octets.now
@@ -20,12 +22,14 @@ returns-in-Err-clause-unrefused g c =
     (c.write_unfit.ensures.given _ (answers c.in-Err.unfit _ said.0 c.in-Err.ensures.unfit said.1)))
 
 pub returns-in-Err-clause-written : goal.returns-in-Err-clause-written
+unfolding log_in
 returns-in-Err-clause-written g c =
     let said = some_written c.args.octets.now in
     text_given c.write_unfit.result (log_in c.args.octets.now) said.0 _ _ said.1
     (c.write_unfit.ensures.given _ (answers c.in-Err.unfit _ said.0 c.in-Err.ensures.unfit said.1))
 
 pub returns-in-Err-clause-front : goal.returns-in-Err-clause-front
+unfolding log_in
 returns-in-Err-clause-front g c =
     let said = some_written c.args.octets.now in
     front_given c.write_unfit.result (log_in c.args.octets.now) said.0 _ _ said.1
@@ -33,8 +37,8 @@ returns-in-Err-clause-front g c =
 
 pub returns-in_ok-write_log-in-Ok-clause-promise : goal.returns-in_ok-write_log-in-Ok-clause-promise
 returns-in_ok-write_log-in-Ok-clause-promise g c = λ good. record {
-  log = c.in-Ok.log;
-  are = are_log c.args.octets.now c.in-Ok.log c.in-Ok.ensures.fit;
+  log = c.in-Ok.log.entries;
+  are = c.in-Ok.ensures.read;
   taken =
       subst (λ (log : List LogEntry). TookText (IsLogText [] 1 log) (g.K.Sink.taken c.args.sink.now) (g.K.Sink.taken c.write_log.new.sink))
       c.as_slice.ensures c.in_ok-write_log-in-Ok.ensures.ok;

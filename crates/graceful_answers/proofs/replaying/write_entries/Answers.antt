@@ -2,8 +2,8 @@ use Rattle.std.proofs.Common.{◌≡◌, ◌+◌, List, [], ◌∷◌, drop, sub
 use Rattle.std.specs.List.{AllByRecursion}
 use Rattle.std.proofs.lemmas.Grind.{common_steps}
 use Rattle.ov_io.proofs.PieceLemmas.{on_err, took_nothing}
-use Rattle.graceful_log.specs.declared.entry.LogEntry.{LogEntry}
-use Rattle.graceful_log.specs.Entries.{HasEntryForm}
+use Rattle.graceful_answers.specs.declared.entry.LogEntry.{LogEntry}
+use Rattle.graceful_answers.specs.Entries.{HasEntryForm}
 use Rattle.graceful_answers.proofs.Telling.{told_more, told_on, told_stops, told_whole, told_cut}
 use Rattle.graceful_answers.proofs.replaying.write_entries.Goals as goal
 

@@ -1,6 +1,6 @@
 use Rattle.std.proofs.Common.{◌≡◌, ◌+◌, drop}
 use Rattle.std.specs.List.{AllByRecursion}
-use Rattle.graceful_log.specs.Entries.{HasEntryForm}
+use Rattle.graceful_answers.specs.Entries.{HasEntryForm}
 use Rattle.graceful_answers.proofs.Telling.{IsTold}
 use Rattle.graceful_answers.proofs.replaying.write_entries.Given as goal
 

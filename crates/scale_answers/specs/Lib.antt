@@ -1,2 +1,0 @@
-pub mod Spreads
-pub mod Answers
