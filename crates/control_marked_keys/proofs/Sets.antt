@@ -9,6 +9,7 @@ use Rattle.std.specs.Cmp.{Equal-is, IsTotalOrder, tied_itself}
 use Rattle.std.specs.FinMap.{IsAntisymmetric, find, get, get-from_entries, get-insert, insert}
 use Rattle.std.proofs.Common.{refl, sym, ◌∙◌, ap, inl, inr, arith}
 use Rattle.std.proofs.lemmas.Bool.Decides.{nat_tests}
+use Rattle.std.proofs.lemmas.Option.{same_Some}
 use Rattle.ov_types.specs.declared.prefix.Addr.{Addr}
 use Rattle.ov_sync.specs.Keyed.{map_of}
 use Rattle.vpn_tables.specs.NodeModel.Members.{Member}
@@ -35,6 +36,16 @@ pub before_last : {X : Type 0} (x y : X) (xs : List X) → Member x xs → Membe
 before_last x y [] n = absurd n
 before_last x y (z ∷ zs) (inl e) = inl e
 before_last x y (z ∷ zs) (inr n) = inr (before_last x y zs n)
+
+-- what is found at a key stands with it
+module _ {K V : Type 0} (R : K → K → Ordering) (exact : IsAntisymmetric R) where
+  pub found_entry : (es : List (K × V)) (k : K) (v : V) → find R k es ≡ Some v → Member (k, v) es
+  found_entry [] k v f = cc
+  found_entry (e ∷ es) k v f =
+      elim (eq_by_cmp R k e.0) as (λ b. eq_by_cmp R k e.0 ≡ b → cond b (Some e.1) (find R k es) ≡ Some v → (e ≡ (k, v)) ⊎ Member (k, v) es) [
+        | true ↦ λ t f. inl (λ i. (sym (exact k e.0 ((Equal-is (R k e.0)).0 t)) i, same_Some e.1 v f i))
+        | false ↦ λ _ f. inr (found_entry es k v f)
+      ] refl f
 
 module _ {K V : Type 0} (R : K → K → Ordering) (o : IsTotalOrder R) (exact : IsAntisymmetric R) where
   found_of : (es : List (K × V)) (k : K) → Member k (map (λ e. e.0) es) → (v : V) × (find R k es ≡ Some v)
@@ -67,6 +78,10 @@ module _ {K V : Type 0} (R : K → K → Ordering) (o : IsTotalOrder R) (exact :
     got q =
         sym (get-from_entries o fs q) ∙ ap (λ m. get m q) put ∙ get-insert o (map_of R es) k v q
         ∙ ap (λ (x : Option V). cond (eq_by_cmp R q k) (Some v) x) (get-from_entries o es q)
+
+    -- what is found at each key then
+    pub put_is : (q : K) → get (map_of R fs) q ≡ cond (eq_by_cmp R q k) (Some v) (get (map_of R es) q)
+    put_is q = ap (λ m. get m q) put ∙ get-insert o (map_of R es) k v q
 
     pub put_there : Member k (map (λ e. e.0) fs)
     put_there = of_found fs k v (got k ∙ ap (λ b. cond b (Some v) (find R k es)) (ap is_eq (tied_itself o k)))

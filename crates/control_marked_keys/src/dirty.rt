@@ -1,12 +1,13 @@
 //! Marks.
 ghost use Rattle.std.specs.Prelude.{◌≡◌, [], map, true, false};
 ghost use Rattle.std.specs.List.Sorted.{IsStrictlySortedBy};
-ghost use Rattle.ov_types.specs.declared.prefix.Addr.{Addr as At};
 ghost use Rattle.vpn_tables.specs.NodeModel.Directions.{down_order, vpn_order};
 ghost use Rattle.vpn_tables.specs.NodeModel.Keys.{Key, Vpn, of_down};
 ghost use Rattle.vpn_tables.specs.NodeModel.Members.{Member};
-ghost use Rattle.control_marked_keys.specs.Marks.{IsCleanItem, IsCleanRoute, IsWithin};
+ghost use Rattle.vpn_tables.specs.NodeModel.Paths.{Told};
+ghost use Rattle.control_marked_keys.specs.Marks.{IsCleanItem, IsCleanRoute, IsWithin, is_of};
 
+use crate::whom::{Whom, joined};
 use ov_sync::{Delta, SyncIn};
 use ov_types::{Addr, DownKey, VpnKey};
 use std::alloc::Global;
@@ -22,8 +23,8 @@ pub struct Dirty {
     addresses: Vec<Addr>,
     /// Keys of peers.
     routes: SyncIn<VpnKey, ()>,
-    /// Keys of agents.
-    items: SyncIn<DownKey, ()>,
+    /// Keys of agents, each with the agents of which it is marked.
+    items: SyncIn<DownKey, Whom>,
 }
 
 impl Model for Dirty {
@@ -38,7 +39,7 @@ impl Model for Dirty {
       all = s.all;
       addresses = s.addresses.items;
       routes = map (λ e. e.0) s.routes;
-      items = map (λ e. e.0) s.items;
+      items = s.items;
     } };
 }
 
@@ -104,7 +105,7 @@ impl Dirty {
     /// Whether nothing is marked of the agents at an address. It takes no memory.
     pub fn is_clean_at(&self, address: Addr) -> bool
         ensures all { result ≡ true → self.now.all ≡ false }
-        ensures clean { result ≡ true → (k : Key) → IsCleanItem self.now address k }
+        ensures clean { result ≡ true → (a : Told) → a.address ≡ address → (k : Key) → IsCleanItem self.now a k }
     {
         if self.is_whole(address) {
             return false;
@@ -120,10 +121,10 @@ impl Dirty {
         self.routes.iter()
     }
 
-    /// The marked keys of agents, in order. It takes no memory.
-    pub fn items(&self) -> Iter<'_, DownKey, ()>
-        ensures keys { map (λ e. e.0) result ≡ self.now.items }
-        ensures ascending { IsStrictlySortedBy down_order self.now.items }
+    /// The marked keys of agents, in order, each with the agents of which it is marked. It takes no memory.
+    pub fn items(&self) -> Iter<'_, DownKey, Whom>
+        ensures entries { result ≡ self.now.items }
+        ensures ascending { IsStrictlySortedBy down_order (map (λ e. e.0) self.now.items) }
     {
         self.items.iter()
     }
@@ -131,7 +132,8 @@ impl Dirty {
     /// Marks everything of the agents at an address. Where memory is wanting, everything is marked.
     pub fn add_address(&mut self, address: Addr)
         ensures within { IsWithin self.old self.new }
-        ensures marked { self.new.all ≡ false → (k : Key) → IsCleanItem self.new address k → ⊥ }
+        ensures marked { self.new.all ≡ false → (a : Told) → a.address ≡ address → (k : Key)
+            → IsCleanItem self.new a k → ⊥ }
     {
         match self.addresses.push(address) {
             Ok(()) => {}
@@ -150,12 +152,15 @@ impl Dirty {
         }
     }
 
-    /// Marks a key of agents. Where memory is wanting, everything is marked.
-    pub fn add_item(&mut self, key: DownKey)
+    /// Marks a key of some agents, beside those of which it is marked already. Where memory is wanting, everything is
+    /// marked.
+    pub fn add_item(&mut self, key: DownKey, whom: Whom)
         ensures within { IsWithin self.old self.new }
-        ensures marked { self.new.all ≡ false → (address : At) → IsCleanItem self.new address (of_down key) → ⊥ }
+        ensures marked { self.new.all ≡ false → (a : Told) → is_of a key whom ≡ true
+            → IsCleanItem self.new a (of_down key) → ⊥ }
     {
-        match self.items.apply(Delta::Put(key, ())) {
+        let all_of = joined(self.items.get(&key).copied(), whom);
+        match self.items.apply(Delta::Put(key, all_of)) {
             Ok(()) => {}
             Err(_) => self.all = true,
         }

@@ -5,5 +5,7 @@
 mod dirty;
 mod objects;
 mod told;
+mod whom;
 
 pub use dirty::Dirty;
+pub use whom::Whom;

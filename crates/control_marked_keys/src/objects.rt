@@ -1,34 +1,72 @@
 //! Changes that the feed told.
-ghost use Rattle.std.specs.Prelude.{◌≡◌, ◌≢◌, ℕ, true, false, Some, OnOk, OnErr};
+ghost use Rattle.std.specs.Prelude.{◌≡◌, ◌≢◌, ℕ, true, false, Some, is_some, OnOk, OnErr};
+ghost use Rattle.std.specs.FinMap.{get};
 ghost use Rattle.ov_sync.specs.Keyed.{PutOf, key_of};
+ghost use Rattle.ov_types.specs.Prefix.{Block};
 ghost use Rattle.ov_types.specs.declared.objects.LowKey.{LowKey as NameOf};
 ghost use Rattle.ov_types.specs.declared.objects.LowKey.TheVariants as key;
 ghost use Rattle.ov_types.specs.declared.prefix.Addr.{Addr as At};
-ghost use Rattle.vpn_tables.specs.NodeModel.Keys.{Key, Low};
+ghost use Rattle.vpn_tables.specs.NodeModel.Keys.{Key, Low, Row, Subscribe};
 ghost use Rattle.vpn_tables.specs.NodeModel.Maps.{object};
+ghost use Rattle.vpn_tables.specs.NodeModel.Paths.{Told};
 ghost use Rattle.vpn_tables.specs.NodeModel.Wants.{slice};
 ghost use Rattle.vpn_tables.specs.Changes.{with_low};
 ghost use Rattle.vpn_tables.specs.Ranges.{Fits};
-ghost use Rattle.control_touched_agent_laws.specs.Here.{IsListOfPort, port_here, put_by};
+ghost use Rattle.control_touched_agent_laws.specs.Here.{IsListOfPort, IsRowOf, port_here, put_by};
 ghost use Rattle.control_marked_keys.specs.Marks.{AreListsMarked, Covered, IsCleanItem, IsPort, IsWithin};
 
 use crate::dirty::Dirty;
-use crate::told::key_of;
+use crate::told::{key_of, mark_table};
+use crate::whom::Whom;
 use ov_sync::Delta;
 use ov_types::{Addr, DownKey, InstanceId, LowKey, LowValue, NoMemory};
 use vpn_tables::VpnTables;
 use vpn_tables_by_prefix::IndexedTables;
 
-/// Marks what an object of this name may change, wherever it is attached.
-fn mark_name(dirty: &mut Dirty, name: LowKey)
-    ensures within { IsWithin dirty.old dirty.new }
-    ensures no_instance { dirty.new.all ≡ false → (n : ℕ) → name ≢ key.Instance n }
-    ensures no_use { dirty.new.all ≡ false → (n : ℕ) → name ≢ key.ChainUse n }
-    ensures marked { dirty.new.all ≡ false → (address : At) → IsCleanItem dirty.new address (Low name) → ⊥ }
+/// Whether a change leaves whether an object is held at its name.
+fn is_held_still(tables: &VpnTables, delta: &Delta<LowKey, LowValue>) -> bool
+    ensures { result ≡ true → is_some (object tables.now.feed (key_of delta.now)) ≡ is_some (put_by delta.now) }
 {
-    match name {
-        LowKey::Instance(_) | LowKey::ChainUse(_) => dirty.set_all(),
-        LowKey::Attach(_) | LowKey::Acl { .. } => dirty.add_item(DownKey::Slice(name)),
+    let held = tables.low(&key_of(delta)).is_some();
+    match delta {
+        Delta::Put(_, _) => held,
+        Delta::Drop(_) => !held,
+    }
+}
+
+/// Marks an object wherever it is attached. Where a use changes, or an instance comes or goes, everything is marked.
+fn mark_name(dirty: &mut Dirty, tables: &VpnTables, delta: &Delta<LowKey, LowValue>)
+    ensures within { IsWithin dirty.old dirty.new }
+    ensures no_use { dirty.new.all ≡ false → (n : ℕ) → key_of delta.now ≢ key.ChainUse n }
+    ensures known { dirty.new.all ≡ false → (n : ℕ) → key_of delta.now ≡ key.Instance n
+        → is_some (object tables.now.feed (key_of delta.now)) ≡ is_some (put_by delta.now) }
+    ensures marked { dirty.new.all ≡ false → (a : Told) → IsCleanItem dirty.new a (Low (key_of delta.now)) → ⊥ }
+{
+    let name = key_of(delta);
+    let follows = match name {
+        LowKey::ChainUse(_) => false,
+        LowKey::Instance(_) => is_held_still(tables, delta),
+        LowKey::Attach(_) | LowKey::Acl { .. } => true,
+    };
+    if follows {
+        dirty.add_item(DownKey::Slice(name), Whom::Every);
+    } else {
+        dirty.set_all();
+    }
+}
+
+/// Marks the rows of the table of an instance, where the name is one's.
+fn mark_own_table(dirty: &mut Dirty, tables: &VpnTables, name: &LowKey)
+    ensures within { IsWithin dirty.old dirty.new }
+    ensures marked { dirty.new.all ≡ false → (n : ℕ) → name.now ≡ key.Instance n → (a : Told) (q : Block)
+        → is_some (get a.map (Subscribe (record { 0 = n }))) ≡ true → IsCleanItem dirty.new a (Row (record { 0 = n }) q)
+        → IsRowOf tables.now (record { 0 = n }) (Row (record { 0 = n }) q) → ⊥ }
+{
+    if dirty.is_all() {
+        return;
+    }
+    if let LowKey::Instance(number) = name {
+        mark_table(dirty, tables, InstanceId(*number), Whom::Subscribers);
     }
 }
 
@@ -86,11 +124,14 @@ fn port_stays(tables: &VpnTables, delta: &Delta<LowKey, LowValue>) -> bool
 /// Marks a name that is that of an access list from a network.
 fn mark_list(dirty: &mut Dirty, from: u16, name: LowKey)
     ensures within { IsWithin dirty.old dirty.new }
-    ensures marked { dirty.new.all ≡ false → (to : ℕ) → name ≡ key.Acl from to → (address : At)
-        → IsCleanItem dirty.new address (Low name) → ⊥ }
+    ensures marked { dirty.new.all ≡ false → (to : ℕ) → name ≡ key.Acl from to → (a : Told)
+        → IsCleanItem dirty.new a (Low name) → ⊥ }
 {
     match name {
-        LowKey::Acl { from: number, .. } if number == from => dirty.add_item(DownKey::Slice(name)),
+        LowKey::Acl { from: number, .. } if number == from => dirty.add_item(
+            DownKey::Slice(name),
+            Whom::Every,
+        ),
         _ => {}
     }
 }
@@ -120,8 +161,8 @@ fn mark_network(dirty: &mut Dirty, tables: &VpnTables, address: Addr, network: I
 fn mark_object(dirty: &mut Dirty, tables: &VpnTables, value: &LowValue)
     ensures within { IsWithin dirty.old dirty.new }
     ensures marked { dirty.new.all ≡ false → (name : NameOf) → object tables.now.feed name ≡ Some value.now
-        → (address : At) (k : Key) → IsCleanItem dirty.new address k
-        → IsListOfPort tables.now.feed address (Some value.now) k → ⊥ }
+        → (a : Told) (k : Key) → IsCleanItem dirty.new a k
+        → IsListOfPort tables.now.feed a.address (Some value.now) k → ⊥ }
 {
     if let Some((address, network)) = port_of(value) {
         mark_network(dirty, tables, address, network);
@@ -132,8 +173,8 @@ fn mark_object(dirty: &mut Dirty, tables: &VpnTables, value: &LowValue)
 /// stays, there is nothing to look at.
 fn mark_held(dirty: &mut Dirty, tables: &VpnTables, name: &LowKey, stays: bool)
     ensures within { IsWithin dirty.old dirty.new }
-    ensures marked { stays ≡ false → dirty.new.all ≡ false → (address : At) (k : Key) → IsCleanItem dirty.new address k
-        → IsListOfPort tables.now.feed address (object tables.now.feed name.now) k → ⊥ }
+    ensures marked { stays ≡ false → dirty.new.all ≡ false → (a : Told) (k : Key) → IsCleanItem dirty.new a k
+        → IsListOfPort tables.now.feed a.address (object tables.now.feed name.now) k → ⊥ }
 {
     if stays || dirty.is_all() {
         return;
@@ -154,15 +195,17 @@ impl Dirty {
         ensures ok { OnOk result (tables.new ≡ with_low tables.old delta) }
         ensures err { OnErr result (tables.new ≡ tables.old) }
         ensures within { IsWithin self.old self.new }
-        ensures covers { Covered self.new tables.old tables.new }
+        ensures covers { Covered self.old self.new tables.old tables.new }
     {
         let before = tables.held();
         let name = key_of(&delta);
         let stays = port_stays(before, &delta);
-        mark_name(self, name);
+        mark_name(self, before, &delta);
         mark_held(self, before, &name, stays);
+        mark_own_table(self, before, &name);
         tables.set_low(delta)?;
         mark_held(self, tables.held(), &name, stays);
+        mark_own_table(self, tables.held(), &name);
         Ok(())
     }
 }

@@ -1,23 +1,29 @@
 //! Changes that peers and agents told.
-ghost use Rattle.std.specs.Prelude.{◌≡◌, false, None, Some, IfOk, OnOk, OnErr};
+ghost use Rattle.std.specs.Prelude.{◌≡◌, true, false, None, Some, IfOk, OnOk, OnErr};
 ghost use Rattle.ov_sync.specs.Keyed.{key_of};
 ghost use Rattle.ov_types.specs.Prefix.{Block};
+ghost use Rattle.ov_types.specs.declared.keys.DownKey.TheVariants as down;
 ghost use Rattle.ov_types.specs.declared.keys.UpKey.TheVariants as Up;
 ghost use Rattle.ov_types.specs.declared.numbers.InstanceId.{InstanceId as InstanceOf};
-ghost use Rattle.ov_types.specs.declared.prefix.Addr.{Addr as At};
 ghost use Rattle.ov_types.specs.declared.vpn.VpnKey.{VpnKey as KeyOf};
 ghost use Rattle.vpn_tables.specs.NodeModel.Keys.{Key, Row, Vpn};
 ghost use Rattle.vpn_tables.specs.NodeModel.Members.{Member};
+ghost use Rattle.vpn_tables.specs.NodeModel.Paths.{Told};
 ghost use Rattle.vpn_tables.specs.Changes.{with_publication, with_route};
 ghost use Rattle.vpn_tables.specs.Listing.{told_in};
 ghost use Rattle.vpn_tables.specs.Moved.{targets_by_publication, targets_by_route};
 ghost use Rattle.vpn_tables.specs.Touched.{rows_by_key, touched_rows};
 ghost use Rattle.vpn_tables.specs.TouchedKeys.{key_published, keys_led};
-ghost use Rattle.control_marked_keys.specs.Marks.{AreRoutesMarked, AreRowsMarked, Covered, IsCleanItem, IsCleanRoute, IsWithin};
+ghost use Rattle.control_touched_agent_laws.specs.Here.{IsRowOf};
+ghost use Rattle.control_marked_keys.specs.Marks.{AreRoutesMarked, AreRowsMarked, AreTableRowsMarked};
+ghost use Rattle.control_marked_keys.specs.Marks.{Covered, IsCleanItem, IsCleanRoute, IsWithin, is_of};
 
 use crate::dirty::Dirty;
+use crate::whom::Whom;
 use ov_sync::Delta;
-use ov_types::{DownKey, InstanceId, Label, NoMemory, Prefix, Target, UpKey, VpnKey, VpnRoute};
+use ov_types::{
+    Addr, DownKey, InstanceId, Label, NoMemory, Prefix, TableRow, Target, UpKey, VpnKey, VpnRoute,
+};
 use vpn_tables::VpnTables;
 use vpn_tables_by_prefix::IndexedTables;
 
@@ -31,13 +37,51 @@ pub(crate) fn key_of<K: Copy, V>(delta: &Delta<K, V>) -> K
     }
 }
 
-/// Marks rows.
+/// Marks rows, of the agents that subscribe them.
 fn mark_rows(dirty: &mut Dirty, rows: &[(InstanceId, Prefix)])
     ensures within { IsWithin dirty.old dirty.new }
     ensures marked { AreRowsMarked dirty.new rows.now }
 {
     for (instance, prefix) in rows {
-        dirty.add_item(DownKey::Route(*instance, *prefix));
+        dirty.add_item(DownKey::Route(*instance, *prefix), Whom::Subscribers);
+    }
+}
+
+/// Marks the rows of an instance with some prefixes, of some agents.
+fn mark_table_rows(dirty: &mut Dirty, instance: InstanceId, rows: &[(Prefix, TableRow)], whom: Whom)
+    ensures within { IsWithin dirty.old dirty.new }
+    ensures marked { AreTableRowsMarked dirty.new whom instance rows.now }
+{
+    for (prefix, _row) in rows {
+        dirty.add_item(DownKey::Route(instance, *prefix), whom);
+    }
+}
+
+/// Marks the rows that the table of an instance has, of some agents.
+pub(crate) fn mark_table(dirty: &mut Dirty, tables: &VpnTables, instance: InstanceId, whom: Whom)
+    ensures within { IsWithin dirty.old dirty.new }
+    ensures marked { dirty.new.all ≡ false → (a : Told) (q : Block) → is_of a (down.Route instance q) whom ≡ true
+        → IsCleanItem dirty.new a (Row instance q) → IsRowOf tables.now instance (Row instance q) → ⊥ }
+{
+    match tables.table(instance) {
+        Ok(rows) => mark_table_rows(dirty, instance, &rows, whom),
+        Err(NoMemory) => dirty.set_all(),
+    }
+}
+
+/// Marks of the agents at an address the rows of an instance that one of them subscribes. Where something is marked of
+/// them already, everything of them is marked.
+fn mark_subscribed(dirty: &mut Dirty, tables: &VpnTables, address: Addr, instance: InstanceId)
+    ensures within { IsWithin dirty.old dirty.new }
+    ensures marked { dirty.new.all ≡ false → (a : Told) → a.address ≡ address → (k : Key) → IsCleanItem dirty.new a k
+        → IsRowOf tables.now instance k → ⊥ }
+    ensures kept { dirty.new.all ≡ false → (a b : Told) → a.address ≡ address → b.address ≡ address → (k : Key)
+        → IsCleanItem dirty.new a k → IsCleanItem dirty.old b k }
+{
+    if dirty.is_clean_at(address) {
+        mark_table(dirty, tables, instance, Whom::Only(address));
+    } else {
+        dirty.add_address(address);
     }
 }
 
@@ -105,16 +149,23 @@ fn mark_publication(
     Ok(targets)
 }
 
-/// Marks the key under which a publication is told, and everything of an agent that subscribes.
+/// Marks the key under which a publication is told, and of an agent that subscribes the rows of the instance.
 fn mark_own(dirty: &mut Dirty, tables: &VpnTables, session: u16, key: &UpKey)
     ensures within { IsWithin dirty.old dirty.new }
     ensures published { dirty.new.all ≡ false → (k : KeyOf) → key_published tables.now session key.now ≡ Some k
         → IsCleanRoute dirty.new (Vpn k) → ⊥ }
-    ensures subscribed { dirty.new.all ≡ false → (i : InstanceOf) → key.now ≡ Up.Subscribe i → (k : Key)
-        → IsCleanItem dirty.new (told_in tables.now.agents session).address k → ⊥ }
+    ensures subscribed { dirty.new.all ≡ false → (i : InstanceOf) → key.now ≡ Up.Subscribe i → (a : Told)
+        → a.address ≡ (told_in tables.now.agents session).address → (k : Key) → IsCleanItem dirty.new a k
+        → IsRowOf tables.now i k → ⊥ }
+    ensures kept { dirty.new.all ≡ false → (i : InstanceOf) → key.now ≡ Up.Subscribe i → (a b : Told)
+        → a.address ≡ (told_in tables.now.agents session).address
+        → b.address ≡ (told_in tables.now.agents session).address → (k : Key) → IsCleanItem dirty.new a k
+        → IsCleanItem dirty.old b k }
 {
     match key {
-        UpKey::Subscribe(_) => dirty.add_address(tables.address_of(session)),
+        UpKey::Subscribe(instance) => {
+            mark_subscribed(dirty, tables, tables.address_of(session), *instance);
+        }
         UpKey::Publish(_, _) => match tables.key_published(session, key) {
             Some(key) => dirty.add_route(key),
             None => {}
@@ -133,7 +184,7 @@ impl Dirty {
         ensures ok { OnOk result (tables.new ≡ with_publication tables.old session delta) }
         ensures err { OnErr result (tables.new ≡ tables.old) }
         ensures within { IsWithin self.old self.new }
-        ensures covers { Covered self.new tables.old tables.new }
+        ensures covers { Covered self.old self.new tables.old tables.new }
     {
         let before = tables.held();
         before.uses_are_short();
@@ -161,7 +212,7 @@ impl Dirty {
         ensures ok { OnOk result (tables.new ≡ with_route tables.old session delta) }
         ensures err { OnErr result (tables.new ≡ tables.old) }
         ensures within { IsWithin self.old self.new }
-        ensures covers { Covered self.new tables.old tables.new }
+        ensures covers { Covered self.old self.new tables.old tables.new }
     {
         let before = tables.held();
         before.uses_are_short();

@@ -1,5 +1,5 @@
 //! What agents are told.
-ghost use Rattle.std.specs.Prelude.{◌≡◌, [], false, map, IfOk, OnErr, OnOk};
+ghost use Rattle.std.specs.Prelude.{◌≡◌, ◌++◌, [], ◌∷◌, false, map, IfOk, OnErr, OnOk};
 ghost use Rattle.std.specs.List.{AllByRecursion};
 ghost use Rattle.ov_sync.specs.Embed.{moved_delta};
 ghost use Rattle.control_key_sends.specs.NodeItems.Told.{down_of, down_value};
@@ -9,33 +9,56 @@ ghost use Rattle.vpn_tables.specs.NodeModel.Members.{Member};
 ghost use Rattle.vpn_tables.specs.Listing.{told_in};
 ghost use Rattle.control_marked_keys.specs.ControlTouchedAgentLaws.Here.{wanted_on};
 ghost use Rattle.control_marked_keys.specs.Marks.{Marks};
-ghost use Rattle.control_marked_sends.specs.Marked.{AreMarkedItems, HasItsRow};
-ghost use Rattle.control_marked_sends.specs.Wanted.{AreItems, IsSentToAgent};
+ghost use Rattle.control_marked_sends.specs.Marked.{AreMarkedItems, HasItsRow, marked_entry};
+ghost use Rattle.control_marked_sends.specs.Wanted.{AreEachWanted, AreItems, IsSentToAgent, keys_of};
 
-use crate::marked::{MarkedItem, key_of, value_of};
+use crate::marked::{MarkedItem, is_marked_of, key_of, value_of};
 use control_key_sends::tell_items;
 use control_marked_keys::Dirty;
 use control_wants::wanted_by_agent;
 use ov_sync::{Delta, SyncOut};
-use ov_types::{DownKey, DownValue, NoMemory};
+use ov_types::{Addr, DownKey, DownValue, NoMemory};
 use std::alloc::Global;
 use vpn_tables::VpnTables;
 
-/// What the agent of a session is to have been told of what is marked.
+/// Appends a marked key with what the agent of a session is to have been told at it, where it is marked of that agent.
+fn push_item(
+    wanted: &mut Vec<(DownKey, Option<DownValue>)>,
+    tables: &VpnTables,
+    session: u16,
+    address: Addr,
+    item: &MarkedItem,
+) -> Result<(), NoMemory>
+    requires address { address ≡ (told_in tables.now.agents session).address }
+    requires row { HasItsRow tables.now item.now.key }
+    requires each { AreEachWanted tables.now session wanted.old.items }
+    ensures keys { OnOk result (map (λ e. e.0) wanted.new.items
+        ≡ map (λ e. e.0) wanted.old.items ++ keys_of (told_in tables.now.agents session) (marked_entry item.now ∷ [])) }
+    ensures each { OnOk result (AreEachWanted tables.now session wanted.new.items) }
+{
+    if !is_marked_of(tables, session, address, item) {
+        return Ok(());
+    }
+    let value = value_of(tables, session, &item.key)?;
+    wanted.push((key_of(&item.key), value))?;
+    Ok(())
+}
+
+/// What the agent of a session is to have been told of what is marked of it.
 fn marked_items(
     alloc: Global,
     tables: &VpnTables,
     session: u16,
     marked: &[MarkedItem],
 ) -> Result<Vec<(DownKey, Option<DownValue>)>, NoMemory>
-    requires { AllByRecursion (HasItsRow tables.now) marked.now }
+    requires { AllByRecursion (λ m. HasItsRow tables.now m.key) marked.now }
     ensures { IfOk result (λ wanted. (d : Marks) → AreMarkedItems d tables.now marked.now
         → AreItems d tables.now session wanted.items) }
 {
+    let address = tables.address_of(session);
     let mut wanted = Vec::new(alloc);
     for item in marked {
-        let value = value_of(tables, session, item)?;
-        wanted.push((key_of(item), value))?;
+        push_item(&mut wanted, tables, session, address, item)?;
     }
     Ok(wanted)
 }

@@ -8,18 +8,19 @@ ghost use Rattle.vpn_tables.specs.NodeModel.Values.{Entry as EntryOf};
 ghost use Rattle.control_wants.specs.Entries.{hop_of};
 ghost use Rattle.vpn_tables.specs.Listing.{told_in};
 ghost use Rattle.control_marked_keys.specs.ControlTouchedAgentLaws.Here.{wanted_on};
-ghost use Rattle.control_marked_sends.specs.Marked.{AreMarkedItems, HasItsRow, marked_key};
+ghost use Rattle.control_marked_keys.specs.Marks.{is_of, is_subscribed};
+ghost use Rattle.control_marked_sends.specs.Marked.{AreMarkedItems, HasItsRow, key_in};
 
-use control_marked_keys::Dirty;
+use control_marked_keys::{Dirty, Whom};
 use control_wants::wanted_down;
-use ov_types::{DownKey, DownValue, Entry, InstanceId, LowKey, NoMemory, Prefix, TableRow};
+use ov_types::{Addr, DownKey, DownValue, Entry, InstanceId, LowKey, NoMemory, Prefix, TableRow};
 use std::alloc::Global;
 use vpn_tables::VpnTables;
 use vpn_tables_by_prefix::IndexedTables;
 
-/// A marked key of agents.
+/// A key of agents, with what is told at it.
 #[derive(Drop)]
-pub enum MarkedItem {
+pub(crate) enum ItemKey {
     /// An object of slices.
     Slice(LowKey),
     /// A row of a table, where it has one, as an agent is told it.
@@ -28,6 +29,14 @@ pub enum MarkedItem {
         prefix: Prefix,
         row: Option<Entry>,
     },
+}
+
+/// A marked key of agents.
+#[derive(Drop)]
+pub struct MarkedItem {
+    pub(crate) key: ItemKey,
+    /// The agents of which it is marked.
+    pub(crate) whom: Whom,
 }
 
 fn entry_of(row: Option<TableRow>) -> Option<Entry>
@@ -40,15 +49,15 @@ fn entry_of(row: Option<TableRow>) -> Option<Entry>
     })
 }
 
-fn marked_item(tables: &IndexedTables, key: &DownKey) -> Result<MarkedItem, NoMemory>
-    ensures key { IfOk result (λ item. marked_key item ≡ key.now) }
+fn with_row(tables: &IndexedTables, key: &DownKey) -> Result<ItemKey, NoMemory>
+    ensures key { IfOk result (λ item. key_in item ≡ key.now) }
     ensures row { IfOk result (λ item. HasItsRow tables.now item) }
 {
     match key {
-        DownKey::Slice(low) => Ok(MarkedItem::Slice(*low)),
+        DownKey::Slice(low) => Ok(ItemKey::Slice(*low)),
         DownKey::Route(instance, prefix) => {
             let row = tables.row(*instance, prefix)?;
-            Ok(MarkedItem::Row {
+            Ok(ItemKey::Row {
                 instance: *instance,
                 prefix: *prefix,
                 row: entry_of(row),
@@ -66,24 +75,51 @@ pub fn items_marked(
     ensures { IfOk result (λ marked. AreMarkedItems dirty.now tables.now marked.items) }
 {
     let mut marked = Vec::new(alloc);
-    for (key, _marked) in dirty.items() {
-        let item = marked_item(tables, key)?;
-        marked.push(item)?;
+    for (key, whom) in dirty.items() {
+        let key = with_row(tables, key)?;
+        marked.push(MarkedItem { key, whom: *whom })?;
     }
     Ok(marked)
 }
 
-/// The key of a marked item.
-pub(crate) fn key_of(item: &MarkedItem) -> DownKey
-    ensures { result ≡ marked_key item.now }
+/// The key without what is told at it.
+pub(crate) fn key_of(item: &ItemKey) -> DownKey
+    ensures { result ≡ key_in item.now }
 {
     match item {
-        MarkedItem::Slice(low) => DownKey::Slice(*low),
-        MarkedItem::Row {
+        ItemKey::Slice(low) => DownKey::Slice(*low),
+        ItemKey::Row {
             instance,
             prefix,
             ..
         } => DownKey::Route(*instance, *prefix),
+    }
+}
+
+/// Whether a key is one of slices, or that of a row whose instance the agent of a session subscribed.
+fn is_subscribed(tables: &VpnTables, session: u16, item: &ItemKey) -> bool
+    ensures { result ≡ is_subscribed (told_in tables.now.agents session) (key_in item.now) }
+{
+    match item {
+        ItemKey::Slice(_) => true,
+        ItemKey::Row { instance, .. } => tables.subscribes(session, *instance),
+    }
+}
+
+/// Whether a key is marked of the agent of a session, whose address this is.
+pub(crate) fn is_marked_of(
+    tables: &VpnTables,
+    session: u16,
+    address: Addr,
+    item: &MarkedItem,
+) -> bool
+    requires { address ≡ (told_in tables.now.agents session).address }
+    ensures { result ≡ is_of (told_in tables.now.agents session) (key_in item.now.key) item.now.whom }
+{
+    match item.whom {
+        Whom::Every => true,
+        Whom::Subscribers => is_subscribed(tables, session, &item.key),
+        Whom::Only(other) => other.0 == address.0,
     }
 }
 
@@ -104,23 +140,21 @@ fn subscribed(
     Some(DownValue::Row(row))
 }
 
-/// What the agent of a session is to have been told of a marked item, where there is something.
+/// What the agent of a session is to have been told at a key, where there is something.
 pub(crate) fn value_of(
     tables: &VpnTables,
     session: u16,
-    item: &MarkedItem,
+    item: &ItemKey,
 ) -> Result<Option<DownValue>, NoMemory>
     requires { HasItsRow tables.now item.now }
     ensures { IfOk result (λ value. option_map down_value value
-        ≡ get (wanted_on tables.now session) (of_down (marked_key item.now))) }
+        ≡ get (wanted_on tables.now session) (of_down (key_in item.now))) }
 {
     match item {
-        MarkedItem::Slice(low) => {
+        ItemKey::Slice(low) => {
             let value = wanted_down(tables, session, &DownKey::Slice(*low))?;
             Ok(value)
         }
-        MarkedItem::Row { instance, row, .. } => {
-            Ok(subscribed(tables, session, *instance, *row))
-        }
+        ItemKey::Row { instance, row, .. } => { Ok(subscribed(tables, session, *instance, *row)) }
     }
 }

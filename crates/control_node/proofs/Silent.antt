@@ -112,7 +112,7 @@ module _ (d : Marks) (h h' : Holdings) (session : ℕ) (same : SameBut h h' sess
   agent_as_before : (n : ℕ) (e : AgentEnd) → (n ≡ session → ⊥) → IsAgentTracked d h n e → IsAgentTracked d h' n e
   agent_as_before n e away tracked = λ sends none k clean.
       let told = same.told n away in
-      tracked sends none k (subst (λ (a : Told). IsCleanItem d a.address k) told clean)
+      tracked sends none k (subst (λ (a : Told). IsCleanItem d a k) told clean)
       ∙ ap (λ (m : Map). get m k) (same.agents (told_in h.agents n))
       ∙ ap (λ (a : Told). get (wanted_by_agent h' a) k) (sym told)
 

@@ -5,7 +5,6 @@ use Rattle.std.specs.FinMap.{get}
 use Rattle.std.proofs.Common.{refl, sym, ◌∙◌, ap, subst, arith, get_or, set, length-set}
 use Rattle.ov_types.specs.declared.keys.DownKey.{DownKey}
 use Rattle.ov_types.specs.declared.keys.DownValue.{DownValue}
-use Rattle.ov_types.specs.declared.prefix.Addr.{Addr}
 use Rattle.ov_types.specs.declared.vpn.VpnKey.{VpnKey}
 use Rattle.ov_types.specs.declared.vpn.VpnRoute.{VpnRoute}
 use Rattle.node_core.proofs.Lists.{all-set}
@@ -15,7 +14,7 @@ use Rattle.node_core.specs.NodeModel.Paths.{Holdings}
 use Rattle.node_core.specs.NodeModel.Wants.{wanted_by_peers}
 use Rattle.vpn_tables.specs.Listing.{told_in}
 use Rattle.vpn_tables.specs.Views.{peer_of}
-use Rattle.control_marked_keys.specs.Marks.{Covers, IsCleanItem, IsWithin, Marks}
+use Rattle.control_marked_keys.specs.Marks.{Covers, IsWithin, Marks}
 use Rattle.control_marked_keys.proofs.Growing.{within_itself, within_then}
 use Rattle.control_node.specs.Planning.{AreAgentsTold, ArePeersTold, IsAgentTold, IsPeerTold, agent_sends, peer_sends, wanted_on}
 use Rattle.control_node.specs.Tracking.{AreAgentsTracked, AreMarked, IsAgentTracked, IsPeerTracked, Tracks}
@@ -27,7 +26,12 @@ use Rattle.control_node.proofs.Keeping.{all-at}
 pub marked_more : (d d' : Marks) (h : Holdings) → IsWithin d d' → AreMarked d d' h h
 marked_more d d' h within = record {
   within = within;
-  covers = λ all. record { addresses = λ a. refl; peers = λ k clean. refl; agents = λ a k clean. refl };
+  covers = λ all. record {
+    addresses = λ a. refl;
+    peers = λ k clean. refl;
+    agents = λ a k clean. refl;
+    kept = λ a k clean. within.items (told_in h.agents a) k clean;
+  };
 }
 
 pub marked_itself : (d : Marks) (h : Holdings) → AreMarked d d h h
@@ -37,14 +41,13 @@ pub marked_then : (a b c : Marks) (f g h : Holdings) → AreMarked a b f g → A
 marked_then a b c f g h v w = record {
   within = within_then a b c v.within w.within;
   covers = λ all.
-      let first : Covers b f g = v.covers (w.within.all all) in
-      let last : Covers c g h = w.covers all in
+      let first : Covers a b f g = v.covers (w.within.all all) in
+      let last : Covers b c g h = w.covers all in
       record {
         addresses = λ agent. last.addresses agent ∙ first.addresses agent;
         peers = λ k clean. first.peers k (w.within.routes k clean) ∙ last.peers k clean;
-        agents = λ agent k clean.
-            first.agents agent k (w.within.items (told_in f.agents agent).address k clean)
-            ∙ last.agents agent k (subst (λ (at : Addr). IsCleanItem c at k) (sym (first.addresses agent)) clean);
+        agents = λ agent k clean. first.agents agent k (last.kept agent k clean) ∙ last.agents agent k clean;
+        kept = λ agent k clean. first.kept agent k (last.kept agent k clean);
       };
 }
 
@@ -56,9 +59,8 @@ peer_still d d' h h' e m tracked = λ sends all k clean.
 pub agent_still : (d d' : Marks) (h h' : Holdings) (session : ℕ) (e : AgentEnd) → AreMarked d d' h h' → IsAgentTracked d h session e
     → IsAgentTracked d' h' session e
 agent_still d d' h h' session e m tracked = λ sends all k clean.
-    let covers : Covers d' h h' = m.covers all in
-    let here : IsCleanItem d' (told_in h.agents session).address k = subst (λ (at : Addr). IsCleanItem d' at k) (covers.addresses session) clean in
-    tracked sends (m.within.all all) k (m.within.items (told_in h.agents session).address k here) ∙ covers.agents session k here
+    let covers : Covers d d' h h' = m.covers all in
+    tracked sends (m.within.all all) k (covers.kept session k clean) ∙ covers.agents session k clean
 
 -- ---- all of them
 peers_still : (d d' : Marks) (h h' : Holdings) (es : List PeerEnd) → AreMarked d d' h h' → AllByRecursion (IsPeerTracked d h) es

@@ -16,7 +16,7 @@ use Rattle.control_node.specs.declared.ends.PeerEnd.{PeerEnd}
 -- what changes of what is to be told, from the one holdings to the other, is marked then, and what was marked still is
 pub record AreMarked (d d' : Marks) (h h' : Holdings) : Type 0 where
   pub within : IsWithin d d'
-  pub covers : Covered d' h h'
+  pub covers : Covered d d' h h'
 
 -- ---- one end
 abbrev pub IsPeerTracked : Marks → Holdings → PeerEnd → Type 0

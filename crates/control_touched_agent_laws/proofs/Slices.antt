@@ -8,6 +8,7 @@ use Rattle.std.specs.Cmp.{Equal-is}
 use Rattle.std.specs.FinMap.{entries, find, get, get-from_entries}
 use Rattle.std.proofs.Common.{refl, sym, ◌∙◌, ap, subst, inl, inr, arith}
 use Rattle.std.proofs.lemmas.Bool.Decides.{nat_tests}
+use Rattle.ov_types.specs.Prefix.{Block}
 use Rattle.ov_types.specs.declared.numbers.InstanceId.{InstanceId}
 use Rattle.ov_types.specs.declared.objects.LowKey.{LowKey}
 use Rattle.ov_types.specs.declared.objects.LowKey.TheVariants as key
@@ -22,14 +23,16 @@ use Rattle.control_touched_laws.specs.NodeModel.Keys.{Key, Low, Vpn, Row, Publis
 use Rattle.control_touched_laws.specs.NodeModel.Values.{Value, Object, Route, Entry, Label}
 use Rattle.control_touched_laws.specs.NodeModel.Maps.{Map, as_object, low_entry, object, objects}
 use Rattle.control_touched_laws.specs.NodeModel.Paths.{Holdings, Told}
+use Rattle.control_touched_laws.specs.NodeModel.Tables.{table}
 use Rattle.control_touched_laws.specs.NodeModel.Wants.{is_in_slice, networks_at, port_at, rows_of, slice, slice_entry, subscriptions, wanted_by_agent}
 use Rattle.control_touched_laws.proofs.NodeModel.Members.{none_some}
 use Rattle.control_touched_laws.proofs.NodeModel.Objects.{object_of}
 use Rattle.control_touched_laws.proofs.NodeModel.Orders.{key_exact, key_total}
-use Rattle.control_touched_laws.proofs.NodeModel.Wanted.{slice_is, wanted_object}
+use Rattle.control_touched_laws.proofs.NodeModel.Wanted.{slice_is, subscription_from, wanted_object}
 use Rattle.control_touched_laws.specs.VpnTables.Changes.{with_low}
 use Rattle.control_touched_laws.proofs.Filtering.{filter_twice, found_among, found_in_each}
 use Rattle.control_touched_laws.proofs.Objects.{object_stays, tables_stay}
+use Rattle.control_touched_laws.proofs.Wanted.{rows_of_one}
 use Rattle.control_touched_agent_laws.specs.Here.{IsListOfPort, is_here, port_here, put_by}
 use Rattle.control_touched_agent_laws.proofs.Ports.{low_in, networks_alike, one_network}
 use Rattle.control_touched_agent_laws.proofs.Kept.{Unsaid, filter_alike, filter_said, found_both, kept, map_said, said, said_stays, value_put}
@@ -196,19 +199,20 @@ module _ (address : Addr) where
           ∙ sym (found_by belongs_then next)
 
 -- ---- what an agent is to be told, at another key
-lists_stay : (h : Holdings) (d : Delta LowKey LowValue) (a : Told) (k : Key) → ((n : ℕ) → key_of d ≢ key.Instance n) → ((n : ℕ) → key_of d ≢ key.ChainUse n) → k ≢ Low (key_of d)
+-- the row of a key is the same, where the agent subscribed its instance
+abbrev SameRow : Holdings → Holdings → Told → Key → Type 0
+SameRow h g a k = (i : InstanceId) (q : Block) → k ≡ Row i q → is_some (get a.map (Subscribe i)) ≡ true → get (table h i) q ≡ get (table g i) q
+
+lists_stay : (h : Holdings) (d : Delta LowKey LowValue) (a : Told) (k : Key) → SameRow h (with_low h d) a k → k ≢ Low (key_of d)
     → ((from to : ℕ) → k ≡ Low (key.Acl from to) → list_any (of_network from) (networks_at h.feed a.address) ≡ list_any (of_network from) (networks_at (with_low h d).feed a.address))
     → get (wanted_by_agent h a) k ≡ get (wanted_by_agent (with_low h d) a) k
-lists_stay h d a k instances uses away same =
+lists_stay h d a k rows away same =
     let g = with_low h d in
     get-from_entries key_total (map slice_entry (slice h.feed a.address) ++ flat_map (rows_of h) (subscriptions a.map)) k
     ∙ found_both key_cmp k (map slice_entry (slice h.feed a.address)) (flat_map (rows_of h) (subscriptions a.map)) (map slice_entry (slice g.feed a.address)) (flat_map (rows_of g) (subscriptions a.map))
     (slice_stays a.address h.feed d k away same)
-    (found_in_each key_cmp k (rows_of h) (rows_of g) (subscriptions a.map) (λ j _. ap (find key_cmp k) (rows_same j)))
+    (found_in_each key_cmp k (rows_of h) (rows_of g) (subscriptions a.map) (λ j n. rows_of_one h g k j (λ q is. rows j q is (subscription_from a.map j n))))
     ∙ sym (get-from_entries key_total (map slice_entry (slice g.feed a.address) ++ flat_map (rows_of g) (subscriptions a.map)) k)
-  where
-    rows_same : (j : InstanceId) → rows_of h j ≡ rows_of (with_low h d) j
-    rows_same j = ap (λ t. map (λ e. (Row j e.0, Entry (record { next_hop = e.1.next_hop; label = e.1.label }))) (entries t)) (tables_stay h d instances uses j)
 
 -- what is not held is not told
 untold : (h : Holdings) (a : Told) (j : LowKey) → object h.feed j ≡ None → get (wanted_by_agent h a) (Low j) ≡ None
@@ -223,18 +227,18 @@ untold h a j absent =
 abbrev Stays : Holdings → Delta LowKey LowValue → Told → Key → Type 0
 Stays h d a k = get (wanted_by_agent h a) k ≡ get (wanted_by_agent (with_low h d) a) k
 
-pub attachment : (h : Holdings) (d : Delta LowKey LowValue) (a : Told) (k : Key) → ((n : ℕ) → key_of d ≢ key.Instance n) → ((n : ℕ) → key_of d ≢ key.ChainUse n) → k ≢ Low (key_of d)
+pub any_object : (h : Holdings) (d : Delta LowKey LowValue) (a : Told) (k : Key) → SameRow h (with_low h d) a k → k ≢ Low (key_of d)
     → (port_here a.address (object h.feed (key_of d)) ≢ port_here a.address (put_by d) → IsListOfPort h.feed a.address (object h.feed (key_of d)) k → ⊥)
     → (port_here a.address (object h.feed (key_of d)) ≢ port_here a.address (put_by d) → IsListOfPort h.feed a.address (put_by d) k → ⊥)
     → get (wanted_by_agent h a) k ≡ get (wanted_by_agent (with_low h d) a) k
-attachment h d a k instances uses away before after = by_key k refl
+any_object h d a k rows away before after = by_key k refl
   where
     no_list : ((from to : ℕ) → k ≡ Low (key.Acl from to) → ⊥) → Stays h d a k
-    no_list none = lists_stay h d a k instances uses away (λ from to is. absurd (none from to is))
+    no_list none = lists_stay h d a k rows away (λ from to is. absurd (none from to is))
 
     held_list : (from to : ℕ) (v : LowValue) → k ≡ Low (key.Acl from to) → object h.feed (key.Acl from to) ≡ Some v → Stays h d a k
     held_list from to v is held =
-        lists_stay h d a k instances uses away (λ x y here. same x y here (one_network (port_here a.address (object h.feed (key_of d))) (port_here a.address (put_by d))))
+        lists_stay h d a k rows away (λ x y here. same x y here (one_network (port_here a.address (object h.feed (key_of d))) (port_here a.address (put_by d))))
       where
         listed : (o : Option LowValue) (x y : ℕ) → k ≡ Low (key.Acl x y) → (n : InstanceId) → port_here a.address o ≡ Some n → n.0 ≡ x → IsListOfPort h.feed a.address o k
         listed o x y here n port same =
@@ -274,6 +278,13 @@ attachment h d a k instances uses away before after = by_key k refl
     by_key (Row i q) is = no_list (λ from to e. cc)
     by_key (Publish i q) is = no_list (λ from to e. cc)
     by_key (Subscribe i) is = no_list (λ from to e. cc)
+
+-- of an object that is no instance and no use tables stay
+pub attachment : (h : Holdings) (d : Delta LowKey LowValue) (a : Told) (k : Key) → ((n : ℕ) → key_of d ≢ key.Instance n) → ((n : ℕ) → key_of d ≢ key.ChainUse n) → k ≢ Low (key_of d)
+    → (port_here a.address (object h.feed (key_of d)) ≢ port_here a.address (put_by d) → IsListOfPort h.feed a.address (object h.feed (key_of d)) k → ⊥)
+    → (port_here a.address (object h.feed (key_of d)) ≢ port_here a.address (put_by d) → IsListOfPort h.feed a.address (put_by d) k → ⊥)
+    → get (wanted_by_agent h a) k ≡ get (wanted_by_agent (with_low h d) a) k
+attachment h d a k instances uses = any_object h d a k (λ i q _ _. ap (λ t. get t q) (tables_stay h d instances uses i))
 
 -- what is not attached here is no port here
 no_port : (address : Addr) (o : Option LowValue) → is_here address o ≡ false → port_here address o ≡ None

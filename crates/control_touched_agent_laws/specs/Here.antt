@@ -1,17 +1,20 @@
--- Where an object is attached, before a change of it and after.
+-- Where an object is attached, before a change of it and after, and what the agent of a session is to have been told.
 use Rattle.std.specs.Prelude.{◌≡◌, Bool, false, true, is_some, ℕ}
 use Rattle.std.specs.declared.option.Option.{Option}
 use Rattle.std.specs.declared.option.Option.TheVariants.{Some, None}
+use Rattle.std.specs.FinMap.{get}
 use Rattle.ov_sync.specs.declared.Delta.{Delta}
 use Rattle.ov_sync.specs.declared.Delta.TheVariants.{Put, Drop}
+use Rattle.ov_types.specs.Prefix.{Block}
 use Rattle.ov_types.specs.declared.numbers.InstanceId.{InstanceId}
 use Rattle.ov_types.specs.declared.objects.LowKey.{LowKey}
 use Rattle.ov_types.specs.declared.objects.LowKey.TheVariants as key
 use Rattle.ov_types.specs.declared.objects.LowValue.{LowValue}
 use Rattle.ov_types.specs.declared.prefix.Addr.{Addr}
-use Rattle.control_touched_laws.specs.NodeModel.Keys.{Key, Low}
+use Rattle.control_touched_laws.specs.NodeModel.Keys.{Key, Low, Row}
 use Rattle.control_touched_laws.specs.NodeModel.Maps.{Map, object}
-use Rattle.control_touched_laws.specs.NodeModel.Paths.{Holdings}
+use Rattle.control_touched_laws.specs.NodeModel.Paths.{Holdings, Path}
+use Rattle.control_touched_laws.specs.NodeModel.Tables.{table}
 use Rattle.control_touched_laws.specs.NodeModel.Wants.{is_at, port_at, wanted_by_agent}
 use Rattle.control_touched_laws.specs.VpnTables.Listing.{told_in}
 
@@ -41,3 +44,10 @@ put_by (Drop k) = None
 -- what the agent of a session is to have been told
 abbrev pub wanted_on : Holdings → ℕ → Map
 wanted_on h session = wanted_by_agent h (told_in h.agents session)
+
+-- a key is that of a row that the table of an instance has
+pub record IsRowOf (h : Holdings) (i : InstanceId) (k : Key) : Type 0 where
+  pub prefix : Block
+  pub path : Path
+  pub has : get (table h i) prefix ≡ Some path
+  pub key_is : k ≡ Row i prefix

@@ -1,4 +1,4 @@
--- What passes a test stays as it is, where a map changes at a key whose paths do not pass it.
+-- What passes a test stays as it is, where a map changes at a key of which nothing passes it.
 use Rattle.std.specs.Prelude.{◌≡◌, List, [], ◌∷◌, ◌++◌, Bool, true, false, cond}
 use Rattle.std.specs.declared.option.Option.{Option}
 use Rattle.std.specs.declared.option.Option.TheVariants.{Some, None}
@@ -115,3 +115,19 @@ module _ {Y : Type 0} (f : Key × Value → Option Y) where
     where
       tied : (k : Key) → ((w : Value) → f (k, w) ≡ None) → TiedOff key_cmp key_exact (λ _. true) f k (entries m)
       tied k h e n t = none_off (f e) (subst (λ (j : Key). f (j, e.1) ≡ None) (key_exact k e.0 t) (h e.1))
+
+  -- where nothing that is said at a key passes, its change leaves what passes
+  pub changed_but : (test : Y → Bool) (m : Map) (d : Change) → ((w : Value) → Off test (cons_option (f (key_of d, w)) []))
+      → filter test (filter_map f (entries m)) ≡ filter test (filter_map f (entries (changed m d)))
+  changed_but test m (Put k v) h =
+      put_off key_cmp key_exact test f k v (entries m) (h v) (tied k h)
+      ∙ ap (λ es. filter test (filter_map f es)) (sym (entries-insert key_total m k v))
+    where
+      tied : (k : Key) → ((w : Value) → Off test (cons_option (f (k, w)) [])) → TiedOff key_cmp key_exact test f k (entries m)
+      tied k h e n t = subst (λ (j : Key). Off test (cons_option (f (j, e.1)) [])) (key_exact k e.0 t) (h e.1)
+  changed_but test m (Drop k) h =
+      without_off key_cmp key_exact test f k (entries m) (tied k h)
+      ∙ ap (λ es. filter test (filter_map f es)) (sym (entries-remove key_cmp key_total key_exact m k))
+    where
+      tied : (k : Key) → ((w : Value) → Off test (cons_option (f (k, w)) [])) → TiedOff key_cmp key_exact test f k (entries m)
+      tied k h e n t = subst (λ (j : Key). Off test (cons_option (f (j, e.1)) [])) (key_exact k e.0 t) (h e.1)

@@ -133,10 +133,10 @@ module _ (h : Holdings) (peers : List Map) (agents : List Told) (moved : List Pa
         ∙ sym (get-from_entries key_total (map route_entry (own_paths later ++ reoriginated_paths later)) k)
 
 -- ---- towards an agent
-abbrev told_hop : Path → Value
+abbrev pub told_hop : Path → Value
 told_hop p = Entry (record { next_hop = p.next_hop; label = p.label })
 
-abbrev told_row : InstanceId → Block × Path → Key × Value
+abbrev pub told_row : InstanceId → Block × Path → Key × Value
 told_row i e = (Row i e.0, told_hop e.1)
 
 same_key : (a b : Key) → eq_by_cmp key_cmp a b ≡ true → a ≡ b
@@ -165,13 +165,13 @@ row_ties i q x =
     (λ e. ap is_eq (ap (block_cmp q) (sym (ap (λ k. block_in k q) (same_key (Row i q) (Row i x) e))) ∙ tied_itself prefix_total q))
     (λ e. ties_itself (Row i q) (Row i x) (ap (Row i) (prefix_exact q x ((Equal-is (block_cmp q x)).0 e))))
 
-row_found : (i : InstanceId) (q : Block) (es : List (Block × Path)) → find key_cmp (Row i q) (map (told_row i) es) ≡ option_map told_hop (find block_cmp q es)
+pub row_found : (i : InstanceId) (q : Block) (es : List (Block × Path)) → find key_cmp (Row i q) (map (told_row i) es) ≡ option_map told_hop (find block_cmp q es)
 row_found i q [] = refl
 row_found i q (e ∷ es) =
     (λ k. cond (row_ties i q e.0 k) (Some (told_hop e.1)) (row_found i q es k))
     ∙ elim (eq_by_cmp block_cmp q e.0) as (λ b. cond b (Some (told_hop e.1)) (option_map told_hop (find block_cmp q es)) ≡ option_map told_hop (cond b (Some e.1) (find block_cmp q es))) [ true ↦ refl | false ↦ refl ]
 
-row_elsewhere : (k : Key) (i : InstanceId) (es : List (Block × Path)) → ((q : Block) → k ≢ Row i q) → find key_cmp k (map (told_row i) es) ≡ None
+pub row_elsewhere : (k : Key) (i : InstanceId) (es : List (Block × Path)) → ((q : Block) → k ≢ Row i q) → find key_cmp k (map (told_row i) es) ≡ None
 row_elsewhere k i es h = found_nowhere key_cmp k (map (told_row i) es) (λ e n.
     let f = from_map (told_row i) e es n in
     elim (eq_by_cmp key_cmp k e.0) as (λ b. eq_by_cmp key_cmp k e.0 ≡ b → b ≡ false) [
@@ -214,6 +214,26 @@ module _ (h g : Holdings) where
     where
       subscribe_row : (i j : InstanceId) (q : Block) → Subscribe i ≡ Row j q → ⊥
       subscribe_row i j q is = cc
+
+  -- so are those of one instance, where its own row there is
+  pub rows_of_one : (k : Key) (j : InstanceId) → ((q : Block) → k ≡ Row j q → get (table h j) q ≡ get (table g j) q) → find key_cmp k (rows_of h j) ≡ find key_cmp k (rows_of g j)
+  rows_of_one (Row i q) j same = rows_at_row i j q (λ e. subst (λ (x : InstanceId). get (table h x) q ≡ get (table g x) q) (sym e) (same q (ap (λ (x : InstanceId). Row x q) e)))
+  rows_of_one (Low k) j same = rows_at_key (Low k) (λ i q is. absurd (low_apart k i q is)) j
+    where
+      low_apart : (k : _) (i : InstanceId) (q : Block) → Low k ≡ Row i q → ⊥
+      low_apart k i q is = cc
+  rows_of_one (Vpn k) j same = rows_at_key (Vpn k) (λ i q is. absurd (vpn_apart k i q is)) j
+    where
+      vpn_apart : (k : _) (i : InstanceId) (q : Block) → Vpn k ≡ Row i q → ⊥
+      vpn_apart k i q is = cc
+  rows_of_one (Publish n x) j same = rows_at_key (Publish n x) (λ i q is. absurd (publish_apart n x i q is)) j
+    where
+      publish_apart : (n : InstanceId) (x : Block) (i : InstanceId) (q : Block) → Publish n x ≡ Row i q → ⊥
+      publish_apart n x i q is = cc
+  rows_of_one (Subscribe n) j same = rows_at_key (Subscribe n) (λ i q is. absurd (subscribe_apart n i q is)) j
+    where
+      subscribe_apart : (n i : InstanceId) (q : Block) → Subscribe n ≡ Row i q → ⊥
+      subscribe_apart n i q is = cc
 
 pub agents_same : (h : Holdings) (peers : List Map) (agents : List Told) (a : Told) (k : Key)
     → ((i : InstanceId) (q : Block) → k ≡ Row i q → get (table h i) q ≡ get (table (told_otherwise h peers agents) i) q)

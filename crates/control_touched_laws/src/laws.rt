@@ -1,5 +1,5 @@
 //! Laws of what a change touches: each is the contract of a function that does nothing.
-ghost use Rattle.std.specs.Prelude.{◌≡◌, ◌≢◌, ◌↔◌, ◌⊎◌, [], ℕ, List, None, Some, length, suc};
+ghost use Rattle.std.specs.Prelude.{◌≡◌, ◌≢◌, ◌↔◌, ◌⊎◌, [], ℕ, List, None, Some, is_some, length, suc};
 ghost use Rattle.std.specs.FinMap.{get};
 ghost use Rattle.ov_sync.specs.declared.Delta.{Delta};
 ghost use Rattle.ov_sync.specs.declared.Delta.TheVariants.{Drop};
@@ -17,6 +17,7 @@ ghost use Rattle.ov_types.specs.declared.vpn.VpnKey.{VpnKey};
 ghost use Rattle.ov_types.specs.declared.vpn.VpnRoute.{VpnRoute};
 ghost use Rattle.vpn_tables.specs.NodeModel.Members.{Member};
 ghost use Rattle.vpn_tables.specs.NodeModel.Keys.{Key, Publish, Row, Vpn};
+ghost use Rattle.vpn_tables.specs.NodeModel.Maps.{object};
 ghost use Rattle.vpn_tables.specs.NodeModel.Paths.{Holdings, Told};
 ghost use Rattle.vpn_tables.specs.NodeModel.Reaching.{AreShort};
 ghost use Rattle.vpn_tables.specs.NodeModel.Tables.{table};
@@ -128,4 +129,15 @@ pub fn an_attachment_changes_no_table()
         → ((n : ℕ) → key_of d ≢ key.ChainUse n) → (i : InstanceId) → table h i ≡ table (with_low h d) i }
     ensures peers { (h : Holdings) (d : Delta LowKey LowValue) → ((n : ℕ) → key_of d ≢ key.Instance n)
         → ((n : ℕ) → key_of d ≢ key.ChainUse n) → wanted_by_peers h ≡ wanted_by_peers (with_low h d) }
+{}
+
+/// A change of an instance that stays known, or stays unknown, as an edit of what it imports, changes no table but its
+/// own, and nothing that peers are to be told.
+pub fn an_instance_that_stays_changes_its_own_table_alone()
+    ensures tables { (h : Holdings) (d : Delta LowKey LowValue) (n : ℕ) → key_of d ≡ key.Instance n
+        → is_some (object h.feed (key.Instance n)) ≡ is_some (object (with_low h d).feed (key.Instance n))
+        → (i : InstanceId) → i.0 ≢ n → table h i ≡ table (with_low h d) i }
+    ensures peers { (h : Holdings) (d : Delta LowKey LowValue) (n : ℕ) → key_of d ≡ key.Instance n
+        → is_some (object h.feed (key.Instance n)) ≡ is_some (object (with_low h d).feed (key.Instance n))
+        → wanted_by_peers h ≡ wanted_by_peers (with_low h d) }
 {}

@@ -5,6 +5,6 @@ use Rattle.control_touched_agent_laws.specs.Here.{IsListOfPort}
 use Rattle.control_marked_keys.proofs.objects.mark_held.Goals as goal
 
 pub returns-in-Some-clause-marked : goal.returns-in-Some-clause-marked
-returns-in-Some-clause-marked c = λ _ all address k clean l.
-    c.mark_object.ensures.marked all c.args.name.now (sym c.in-Some.ensures.object) address k clean
-    (subst (λ (o : Option LowValue). IsListOfPort c.args.tables.now.feed address o k) (sym c.in-Some.ensures.object) l)
+returns-in-Some-clause-marked c = λ _ all a k clean l.
+    c.mark_object.ensures.marked all c.args.name.now (sym c.in-Some.ensures.object) a k clean
+    (subst (λ (o : Option LowValue). IsListOfPort c.args.tables.now.feed a.address o k) (sym c.in-Some.ensures.object) l)

@@ -1,9 +1,17 @@
-use Rattle.std.proofs.Common.{subst}
-use Rattle.vpn_tables.specs.NodeModel.Keys.{Key}
-use Rattle.ov_types.specs.declared.prefix.Addr.{Addr}
-use Rattle.control_marked_keys.specs.Marks.{IsCleanItem}
+use Rattle.std.proofs.Common.{◌≡◌, subst, sym, ◌∙◌}
+use Rattle.ov_types.specs.declared.keys.UpKey.TheVariants as Up
+use Rattle.ov_types.specs.declared.numbers.InstanceId.{InstanceId}
+use Rattle.control_touched_agent_laws.specs.Here.{IsRowOf}
 use Rattle.control_marked_keys.proofs.told.mark_own.Goals as goal
 
+same_instance : (i j : InstanceId) → Up.Subscribe i ≡ Up.Subscribe j → i ≡ j
+same_instance i j e = cc
+
 pub returns-in-Subscribe-clause-subscribed : goal.returns-in-Subscribe-clause-subscribed
-returns-in-Subscribe-clause-subscribed c = λ all i is.
-    subst (λ (a : Addr). (k : Key) → IsCleanItem c.add_address.new.self a k → ⊥) c.address_of.ensures (c.add_address.ensures.marked all)
+returns-in-Subscribe-clause-subscribed c = λ all i is a at k clean row.
+    c.mark_subscribed.ensures.marked all a (at ∙ sym c.address_of.ensures) k clean
+    (subst (λ (j : InstanceId). IsRowOf c.args.tables.now j k) (same_instance i c.in-Subscribe.instance (sym is ∙ c.in-Subscribe.is)) row)
+
+pub returns-in-Subscribe-clause-kept : goal.returns-in-Subscribe-clause-kept
+returns-in-Subscribe-clause-kept c = λ all i is a b at bt k clean.
+    c.mark_subscribed.ensures.kept all a b (at ∙ sym c.address_of.ensures) (bt ∙ sym c.address_of.ensures) k clean

@@ -2,8 +2,8 @@ use Rattle.std.proofs.Common.{◌∙◌, ap, sym}
 use Rattle.std.specs.FinMap.{get}
 use Rattle.vpn_tables.specs.NodeModel.Keys.{of_down}
 use Rattle.control_marked_keys.specs.ControlTouchedAgentLaws.Here.{wanted_on}
-use Rattle.control_marked_sends.specs.Marked.{marked_key}
-use Rattle.control_marked_sends.specs.declared.marked.MarkedItem.{MarkedItem}
+use Rattle.control_marked_sends.specs.Marked.{key_in}
+use Rattle.control_marked_sends.specs.declared.marked.ItemKey.{ItemKey}
 use Rattle.control_marked_sends.proofs.Rows.{row_told}
 use Rattle.control_marked_sends.proofs.marked.value_of.Goals as goal
 
@@ -12,4 +12,4 @@ returns-in-Row c =
     let h = c.args.tables.now in
     c.subscribed.ensures
     ∙ row_told h c.args.session c.in-Row.instance c.in-Row.prefix c.in-Row.row (rw c.in-Row.is at c.requires)
-    ∙ ap (λ (m : MarkedItem). get (wanted_on h c.args.session) (of_down (marked_key m))) (sym c.in-Row.is)
+    ∙ ap (λ (m : ItemKey). get (wanted_on h c.args.session) (of_down (key_in m))) (sym c.in-Row.is)

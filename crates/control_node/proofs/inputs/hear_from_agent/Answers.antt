@@ -29,3 +29,9 @@ returns-in_err-take_publications-in-None-clause-marked c =
 pub returns-in_ok-take_publications-in-None-clause-marked : goal.returns-in_ok-take_publications-in-None-clause-marked
 returns-in_ok-take_publications-in-None-clause-marked c =
     marked_then _ _ _ _ _ _ (marked_more _ _ c.args.tables.now c.mark_silent_agent.ensures.within) c.in_ok-take_publications-in-None.ensures.marked
+
+pub returns-in_err-heard-clause-marked : goal.returns-in_err-heard-clause-marked
+returns-in_err-heard-clause-marked c = marked_more _ _ c.args.tables.now c.mark_silent_agent.ensures.within
+
+pub returns-in-Some-clause-marked : goal.returns-in-Some-clause-marked
+returns-in-Some-clause-marked c = marked_more _ _ c.args.tables.now c.mark_silent_agent.ensures.within

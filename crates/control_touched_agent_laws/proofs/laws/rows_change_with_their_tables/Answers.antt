@@ -1,4 +1,5 @@
 use Rattle.control_touched_agent_laws.proofs.Agents.{publication_rows, route_rows}
+use Rattle.control_touched_agent_laws.proofs.Slices.{any_object}
 use Rattle.control_touched_agent_laws.proofs.laws.rows_change_with_their_tables.Goals as goal
 
 pub returns-clause-route : goal.returns-clause-route
@@ -6,3 +7,6 @@ returns-clause-route c = route_rows
 
 pub returns-clause-publication : goal.returns-clause-publication
 returns-clause-publication c = publication_rows
+
+pub returns-clause-object : goal.returns-clause-object
+returns-clause-object c = any_object

@@ -14,4 +14,6 @@ returns-in-Ok-clause-within c =
     (subst (λ (l : List Addr). IsWithin before (record before { addresses = l })) (sym c.in-Ok.ensures.items) (within_address before c.args.address))
 
 pub returns-in-Ok-clause-marked : goal.returns-in-Ok-clause-marked
-returns-in-Ok-clause-marked c = λ all k clean. clean.0 (subst (λ (l : List Addr). Member c.args.address l) (sym c.in-Ok.ensures.items) (last c.args.address c.self.inside.addresses.items))
+returns-in-Ok-clause-marked c = λ all a at k clean.
+    clean.0 (subst (λ (x : Addr). Member x c.push.new.self.items) (sym at)
+    (subst (λ (l : List Addr). Member c.args.address l) (sym c.in-Ok.ensures.items) (last c.args.address c.self.inside.addresses.items)))

@@ -1,18 +1,16 @@
-use Rattle.std.proofs.Common.{map, subst}
-use Rattle.vpn_tables.specs.NodeModel.Directions.{down_order}
-use Rattle.vpn_tables.specs.NodeModel.Keys.{of_down}
-use Rattle.vpn_tables.proofs.NodeModel.Directions.{down_exact, down_total}
-use Rattle.control_marked_keys.specs.Marks.{IsWithin, Marks}
+use Rattle.std.proofs.Common.{◌≡◌, true, subst}
+use Rattle.control_marked_keys.specs.Marks.{IsWithin, Marks, is_marked}
 use Rattle.control_marked_keys.specs.contracts.dirty.Dirty.{the_view}
-use Rattle.control_marked_keys.proofs.Growing.{within_items}
-use Rattle.control_marked_keys.proofs.Sets.{mapped, put_keeps, put_there}
+use Rattle.control_marked_keys.proofs.Growing.{put_marks, within_put}
 use Rattle.control_marked_keys.proofs.dirty.Dirty.add_item.Goals as goal
 
 pub returns-in-Ok-clause-within : goal.returns-in-Ok-clause-within
 returns-in-Ok-clause-within c =
     let before : Marks = the_view c.self.inside in
-    subst (λ (d : Marks). IsWithin d (record before { items = map (λ e. e.0) c.apply.new.self })) c.self.view_is
-    (within_items before (map (λ e. e.0) c.apply.new.self) (put_keeps down_order down_total down_exact c.self.inside.items c.apply.new.self c.args.key _ c.in-Ok.ensures.ok))
+    subst (λ (d : Marks). IsWithin d (record before { items = c.apply.new.self })) c.self.view_is
+    (within_put before c.apply.new.self c.args.key c.joined-all_of.result c.in-Ok.ensures.ok
+    (λ a x t. c.joined-all_of.ensures.keeps a x (subst (λ o. is_marked a x o ≡ true) (cc) t)))
 
 pub returns-in-Ok-clause-marked : goal.returns-in-Ok-clause-marked
-returns-in-Ok-clause-marked c = λ all address clean. clean.1 (mapped of_down c.args.key (map (λ e. e.0) c.apply.new.self) (put_there down_order down_total down_exact c.self.inside.items c.apply.new.self c.args.key _ c.in-Ok.ensures.ok))
+returns-in-Ok-clause-marked c = λ all a is clean.
+    put_marks (the_view c.self.inside) c.apply.new.self c.args.key c.joined-all_of.result c.in-Ok.ensures.ok a (c.joined-all_of.ensures.adds a c.args.key is) clean

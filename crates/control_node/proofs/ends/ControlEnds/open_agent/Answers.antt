@@ -2,9 +2,7 @@ use Rattle.std.proofs.Common.{◌≡◌, ◌+◌, ◌∙◌, ap, arith, length, 
 use Rattle.ov_link.specs.declared.step.Input.TheVariants as input
 use Rattle.node_core.specs.NodeModel.Paths.{Holdings}
 use Rattle.node_core.specs.NodeModel.Step.{post}
-use Rattle.ov_types.specs.declared.prefix.Addr.{Addr}
 use Rattle.vpn_tables.specs.Listing.{told_in}
-use Rattle.control_marked_keys.specs.Marks.{IsCleanItem}
 use Rattle.control_node.specs.Begun.{IsBegun}
 use Rattle.control_node.specs.Ends.{Ends, IsAgentEnd, opened_agent, posts_of}
 use Rattle.control_node.specs.Wanting.{is_idle}
@@ -46,7 +44,7 @@ invariant_of-self c =
       tracked = tracks-agent inside.dirty c.add_address.new.self inside.tables inside.tables inside.peers.items inside.agents.items
           c.self.invariant.tracked (marked_more _ _ inside.tables c.add_address.ensures.within) c.args.place c.greet_agent.new.end
           (λ all. λ sends none k clean.
-          absurd (c.add_address.ensures.marked all k (subst (λ (at : Addr). IsCleanItem c.add_address.new.self at k) address clean)));
+          absurd (c.add_address.ensures.marked all (told_in inside.tables.agents (1 + length inside.peers.items + c.args.place)) address k clean));
     }
 
 pub returns-in_err-replies-clause-plan : goal.returns-in_err-replies-clause-plan
@@ -72,7 +70,7 @@ invariant_of-self-2 c =
       tracked = tracks-agent inside.dirty c.add_address.new.self inside.tables inside.tables inside.peers.items inside.agents.items
           c.self.invariant.tracked (marked_more _ _ inside.tables c.add_address.ensures.within) c.args.place c.greet_agent.new.end
           (λ all. λ sends none k clean.
-          absurd (c.add_address.ensures.marked all k (subst (λ (at : Addr). IsCleanItem c.add_address.new.self at k) address clean)));
+          absurd (c.add_address.ensures.marked all (told_in inside.tables.agents (1 + length inside.peers.items + c.args.place)) address k clean));
     }
 
 pub returns-clause-plan : goal.returns-clause-plan
