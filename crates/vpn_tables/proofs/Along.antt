@@ -7,10 +7,12 @@ use Rattle.std.proofs.Common.{refl, sym, ◌∙◌, ap}
 use Rattle.std.proofs.lemmas.List.{append_assoc}
 use Rattle.ov_types.specs.declared.objects.LowKey.{LowKey}
 use Rattle.ov_types.specs.declared.objects.LowValue.{LowValue}
-use Rattle.path_select.specs.NodeModel.Maps.{Map, object}
-use Rattle.path_select.specs.NodeModel.Uses.{Use, as_use}
+use Rattle.path_select.specs.NodeModel.Maps.{Map, object, objects}
+use Rattle.path_select.specs.NodeModel.Uses.{Use, as_use, uses}
+use Rattle.vpn_tables.specs.Kinds.{is_use}
 use Rattle.vpn_tables.specs.Leading.{use_at}
 use Rattle.vpn_tables.specs.Listing.{each_of}
+use Rattle.vpn_tables.proofs.KindWalks.{uses_in}
 use Rattle.vpn_tables.proofs.Uses.{use_is}
 
 module _ {B : Type 0} (f : Use → List B) where
@@ -27,6 +29,10 @@ module _ {B : Type 0} (f : Use → List B) where
       ap (λ (l : List B). l ++ along rest) (is ∙ ap (λ (o : Option Use). so_far ++ each_of f o) (use_is feed k v held))
       ∙ append_assoc so_far (each_of f (as_use k v)) (along rest)
       ∙ ap (λ (l : List B). so_far ++ l) (sym (first_use (as_use k v) (filter_map (λ e. as_use e.0 e.1) rest)))
+
+  -- those of the uses that are held
+  pub along_held : (feed : Map) → along (filter (λ e. is_use e.0) (objects feed)) ≡ flat_map f (uses feed)
+  along_held feed = ap (flat_map f) (uses_in (objects feed))
 
   -- those of the uses that pass a test
   pub along_passing : (test : Use → Bool) (us : List Use) → flat_map (λ u. cond (test u) (f u) []) us ≡ flat_map f (filter test us)

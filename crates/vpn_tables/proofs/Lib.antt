@@ -10,8 +10,9 @@ pub mod Selected
 pub mod Offers
 pub mod Whole
 pub mod Leads
+pub mod KindWalks
 pub mod Uses
-pub mod PortWalks
+pub mod Counting
 pub mod Farther
 pub mod Listed
 pub mod NoneLed

@@ -1,6 +1,7 @@
 -- The files of definitions, in the order in which they stand on each other.
 pub mod Ranges
 pub mod Ports
+pub mod Kinds
 pub mod Codes
 pub mod Views
 pub mod Changes

@@ -1,41 +1,46 @@
--- Ports among the objects of a feed.
-use Rattle.std.specs.Prelude.{◌≡◌, ◌≢◌, ℕ, Bool, true, false, ◌==◌}
-use Rattle.std.specs.declared.cmp.Ordering.TheVariants.{Less}
+-- How many ports networks have at addresses.
+use Rattle.std.specs.Prelude.{◌≡◌, ℕ, zero, suc, length, Bool, ◌==◌, ◌&&◌, if◌then◌else◌}
+use Rattle.std.specs.declared.cmp.Ordering.{Ordering}
 use Rattle.std.specs.declared.option.Option.{Option}
 use Rattle.std.specs.declared.option.Option.TheVariants.{Some, None}
-use Rattle.ov_sync.specs.declared.Delta.{Delta}
-use Rattle.ov_sync.specs.declared.Delta.TheVariants.{Put, Drop}
-use Rattle.ov_types.specs.declared.numbers.InstanceId.{InstanceId}
-use Rattle.ov_types.specs.declared.objects.LowKey.{LowKey}
-use Rattle.ov_types.specs.declared.objects.LowKey.TheVariants as key
+use Rattle.std.specs.BTreeMap as tree
+use Rattle.std.specs.BTreeMap.{BTreeMap}
+use Rattle.std.specs.List.{filter}
 use Rattle.ov_types.specs.declared.objects.LowValue.{LowValue}
 use Rattle.ov_types.specs.declared.objects.LowValue.TheVariants as low
-use Rattle.path_select.specs.NodeModel.Directions.{low_order}
-use Rattle.path_select.specs.NodeModel.Maps.{Map, object}
+use Rattle.path_select.specs.NodeModel.Maps.{Map}
+use Rattle.path_select.specs.NodeModel.Wants.{networks_at}
+use Rattle.vpn_tables.specs.declared.ports.Site.{Site}
+use Rattle.vpn_tables.specs.contracts.ports.SiteOrd.TheImpl as site_keys
 
-abbrev pub is_port : LowValue → Bool
-is_port (low.AttachPort port instance host node) = true
-is_port _ = false
+abbrev pub site_order : Site → Site → Ordering
+site_order = site_keys.ghosts.cmp
 
--- ---- a port that stands under a key that names no attachment
-abbrev pub is_stray : LowKey → LowValue → Bool
-is_stray (key.Attach label) v = false
-is_stray k v = is_port v
+-- where a port is counted
+abbrev pub site_of : LowValue → Option Site
+site_of (low.AttachPort port instance host node) = Some (record { address = node; network = instance })
+site_of _ = None
 
-abbrev pub IsNoStray : LowKey → LowValue → Type 0
-IsNoStray k v = is_stray k v ≡ false
+abbrev pub same_site : Site → Site → Bool
+same_site t s = (t.address.0 == s.address.0) && (t.network.0 == s.network.0)
 
--- a change puts one
-abbrev pub puts_stray : Delta LowKey LowValue → Bool
-puts_stray (Put k v) = is_stray k v
-puts_stray (Drop k) = false
+-- 1 at the site where a port is counted
+abbrev pub one_at : Option Site → Site → ℕ
+one_at None s = 0
+one_at (Some t) s = if same_site t s then 1 else 0
 
--- ---- a walk over ports
--- no port is held at a key, nor at any that is not before it
-abbrev pub IsPastPorts : Map → LowKey → Type 0
-IsPastPorts feed k = (j : LowKey) (v : LowValue) → low_order j k ≢ Less → object feed j ≡ Some v → is_port v ≡ false
+-- how many ports of a network are at an address
+abbrev pub ports_at : Map → Site → ℕ
+ports_at feed s = length (filter (λ n. n.0 == s.network.0) (networks_at feed s.address))
 
--- what was found is the network of a number
-abbrev pub is_numbered : ℕ → Option InstanceId → Bool
-is_numbered number None = false
-is_numbered number (Some i) = i.0 == number
+-- a number, where it is not 0
+abbrev pub if_any : ℕ → Option ℕ
+if_any zero = None
+if_any (suc n) = Some (suc n)
+
+-- what is kept are these numbers
+abbrev pub Counts : BTreeMap Site ℕ → (Site → ℕ) → Type 0
+Counts ports f = (s : Site) → tree.get site_order ports s ≡ if_any (f s)
+
+abbrev pub AreCounted : BTreeMap Site ℕ → Map → Type 0
+AreCounted ports feed = Counts ports (ports_at feed)

@@ -40,7 +40,7 @@ impl VpnTables {
         ensures { OnOk result (keys.new.items ≡ keys.old.items
             ++ flat_map (keys_if_touched self.now targets.now) (uses self.now.feed)) }
     {
-        for (key, _value) in self.low.iter() {
+        for (key, _value) in self.held_uses() {
             self.key_touched(keys, key, targets)?;
         }
         Ok(())

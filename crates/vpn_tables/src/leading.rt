@@ -22,7 +22,7 @@ impl VpnTables {
         ensures { IfOk result (λ routes. map path_of routes.items ≡ reoriginated_paths self.now) }
     {
         let mut routes = Vec::new(self.alloc);
-        for (key, _value) in self.low.iter() {
+        for (key, _value) in self.held_uses() {
             self.lead_use(&mut routes, key)?;
         }
         Ok(routes)

@@ -5,6 +5,7 @@ mod at;
 mod chains;
 mod gathered;
 mod keys;
+mod kinds;
 mod leading;
 mod least;
 mod listing;

@@ -1,6 +1,6 @@
 //! Lists of what is held, from which a control node makes what it wants and shows.
 ghost use Rattle.std.specs.Prelude.{◌≡◌, ◌==◌, ◌++◌, [], ◌∷◌, Some, OnOk, IfOk, map, option_copied};
-ghost use Rattle.std.specs.List.{filter_map, list_any};
+ghost use Rattle.std.specs.List.{filter_map};
 ghost use Rattle.std.specs.FinMap.{entries};
 ghost use Rattle.path_select.specs.NodeModel.Keys.{of_up};
 ghost use Rattle.path_select.specs.NodeModel.Maps.{Map, objects};
@@ -8,14 +8,13 @@ ghost use Rattle.path_select.specs.NodeModel.Paths.{own_path, own_paths};
 ghost use Rattle.path_select.specs.NodeModel.Reaching.{below};
 ghost use Rattle.path_select.specs.NodeModel.Tables.{known_instances, network_of};
 ghost use Rattle.path_select.specs.NodeModel.Uses.{hop};
-ghost use Rattle.path_select.specs.NodeModel.Wants.{is_in_slice, networks_at, slice, subscribed, subscriptions};
+ghost use Rattle.path_select.specs.NodeModel.Wants.{slice, subscribed, subscriptions};
 ghost use Rattle.vpn_tables.specs.Leading.{use_at};
 ghost use Rattle.vpn_tables.specs.Listing.{hops_of_held, in_slice, sliced, told_by, told_in};
 ghost use Rattle.vpn_tables.specs.Routes.{path_of};
 ghost use Rattle.vpn_tables.specs.Views.{agent_of};
 
 use crate::chains::Side;
-use crate::ports::is_attached;
 use crate::routes::Route;
 use crate::tables::{Agent, VpnTables};
 use ov_types::{Addr, InstanceId, LowKey, LowValue, NoMemory, UpKey};
@@ -52,22 +51,9 @@ impl VpnTables {
     pub fn slice(&self, address: Addr) -> Result<Vec<(LowKey, LowValue)>, NoMemory>
         ensures { IfOk result (λ objects. objects.items ≡ slice self.now.feed address) }
     {
-        let networks = self.networks_at(address)?;
-        self.slice_among(address, networks.as_slice())
-    }
-
-    /// The slice of an address, whose ports are of these networks.
-    fn slice_among(
-        &self,
-        address: Addr,
-        networks: &[InstanceId],
-    ) -> Result<Vec<(LowKey, LowValue)>, NoMemory>
-        requires { networks.now ≡ networks_at self.now.feed address }
-        ensures { IfOk result (λ objects. objects.items ≡ slice self.now.feed address) }
-    {
         let mut objects = Vec::new(self.alloc);
-        for (key, value) in self.low.iter() {
-            if belongs(networks, address, key, value) {
+        for (key, value) in self.held_for_agents() {
+            if self.is_in_slice(address, key, value) {
                 let object = copy_of(value)?;
                 objects.push((*key, object))?;
             }
@@ -136,7 +122,7 @@ impl VpnTables {
         ensures { IfOk result (λ instances. instances.items ≡ known_instances self.now.feed) }
     {
         let mut instances = self.networks()?;
-        for (key, _value) in self.low.iter() {
+        for (key, _value) in self.held_uses() {
             self.push_hops(&mut instances, key)?;
         }
         Ok(instances)
@@ -148,7 +134,7 @@ impl VpnTables {
             ≡ filter_map (λ e. network_of e.0) (objects self.now.feed)) }
     {
         let mut networks = Vec::new(self.alloc);
-        for (key, _value) in self.low.iter() {
+        for (key, _value) in self.held_networks() {
             if let Some(network) = network_of(key) {
                 networks.push(network)?;
             }
@@ -201,25 +187,6 @@ fn copy_of(value: &LowValue) -> Result<LowValue, NoMemory>
     ensures { IfOk result (λ copy. copy ≡ value.now) }
 {
     Ok(value.clone()?)
-}
-
-/// Whether an object is of the slice of an address, whose ports are of these networks.
-fn belongs(networks: &[InstanceId], address: Addr, key: &LowKey, value: &LowValue) -> bool
-    ensures { (feed : Map) → networks.now ≡ networks_at feed address
-        → result ≡ is_in_slice feed address key.now value.now }
-{
-    match key {
-        LowKey::Attach(_) => is_attached(address, value),
-        LowKey::Acl { from, .. } => has_number(networks, *from),
-        _ => false,
-    }
-}
-
-/// Whether a network of this number is among these.
-fn has_number(networks: &[InstanceId], number: u16) -> bool
-    ensures { result ≡ list_any (λ n. n.0 == number) networks.now }
-{
-    networks.iter().any(|network| network.0 == number)
 }
 
 /// The network of a key, where it is a network's.

@@ -1,97 +1,125 @@
-//! Ports among the objects that are held. In the order of keys attachments stand side by side, behind instances alone, so
-//! that a walk that looks for ports ends where they end.
-ghost use Rattle.std.specs.Prelude.{◌≡◌, ◌==◌, ◌||◌, ◌++◌, [], IsTrue, IfOk, OnOk, nat_lt};
-ghost use Rattle.std.specs.List.{cons_option, list_any};
-ghost use Rattle.ov_types.specs.Keys.{kind_of};
-ghost use Rattle.path_select.specs.NodeModel.Wants.{is_at, is_in_slice, networks_at, port_at};
-ghost use Rattle.vpn_tables.specs.Ports.{IsPastPorts, is_numbered, is_port, is_stray, puts_stray};
+//! How many ports each network has at each address: kept, so that nobody walks over ports.
+ghost use Rattle.std.specs.Prelude.{◌≡◌, ◌<◌, ◌+◌, ◌^◌, ◌==◌, ℕ, IfSome, OnOk, OnErr, unwrap_or};
+ghost use Rattle.std.specs.BTreeMap as tree;
+ghost use Rattle.std.specs.List.{list_any};
+ghost use Rattle.ov_sync.specs.declared.Delta.TheVariants.{Put as PutOf, Drop as DropOf};
+ghost use Rattle.ov_sync.specs.Keyed.{changed, map_of};
+ghost use Rattle.path_select.specs.NodeModel.Wants.{is_at, is_in_slice, networks_at};
+ghost use Rattle.vpn_tables.specs.Ports.{AreCounted, Counts, one_at, site_of, site_order};
+ghost use Rattle.vpn_tables.specs.Views.{feed_of, low_order};
+ghost use Rattle.vpn_tables.specs.declared.ports.Site.{Site as SiteOf};
 
 use crate::tables::VpnTables;
-use ov_sync::Delta;
 use ov_types::{Addr, InstanceId, LowKey, LowValue, NoMemory};
+use std::collections::BTreeMap;
 
-fn is_port(value: &LowValue) -> bool
-    ensures { result ≡ is_port value.now }
-{
-    matches!(value, LowValue::AttachPort { .. })
+/// A network at an address.
+#[derive(Clone, Copy, PartialEq, Eq, PartialOrd, Ord)]
+pub(crate) struct Site {
+    address: Addr,
+    network: InstanceId,
 }
 
-/// Whether a port stands under a key that names no attachment.
-fn is_stray(key: &LowKey, value: &LowValue) -> bool
-    ensures { result ≡ is_stray key.now value.now }
-{
-    match key {
-        LowKey::Attach(_) => false,
-        _ => is_port(value),
-    }
-}
+/// The objects that are held.
+pub(crate) type Objects = BTreeMap<LowKey, LowValue>;
 
-/// Whether a change puts one there.
-pub(crate) fn puts_stray(delta: &Delta<LowKey, LowValue>) -> bool
-    ensures { result ≡ puts_stray delta.now }
-{
-    match delta {
-        Delta::Put(key, value) => is_stray(key, value),
-        Delta::Drop(_) => false,
-    }
-}
+/// How many ports there are at each site that has one.
+pub(crate) type Ports = BTreeMap<Site, u64>;
 
-/// Whether there is one, where there was one before or one is put.
-pub(crate) fn has_stray(before: bool, put: bool) -> bool
-    ensures { result ≡ (before || put) }
-{
-    if before {
-        return true;
-    }
-    put
-}
-
-/// Whether keys of attachments are before a key.
-fn is_past_attachments(key: &LowKey) -> bool
-    ensures { result ≡ nat_lt 1 (kind_of key.now) }
-{
-    match key {
-        LowKey::Instance(_) | LowKey::Attach(_) => false,
-        LowKey::Acl { .. } | LowKey::ChainUse(_) => true,
-    }
-}
-
-/// The network of a port at an address, where an object is one.
-fn port_at(address: Addr, value: &LowValue) -> Option<InstanceId>
-    ensures { result ≡ port_at address value.now }
+/// Where an object is counted: a port at its address, as one of its network.
+fn site_of(value: &LowValue) -> Option<Site>
+    ensures { result ≡ site_of value.now }
 {
     match value {
-        LowValue::AttachPort { instance, node, .. } if node.0 == address.0 => Some(*instance),
+        LowValue::AttachPort { instance, node, .. } => Some(Site {
+            address: *node,
+            network: *instance,
+        }),
         _ => None,
     }
 }
 
-/// Appends it.
-fn push_network(
-    networks: &mut Vec<InstanceId>,
-    address: Addr,
-    value: &LowValue,
-) -> Result<(), NoMemory>
-    ensures { OnOk result (networks.new.items ≡ networks.old.items ++ cons_option (port_at address value.now) []) }
+fn count_at(ports: &Ports, site: &Site) -> u64
+    ensures { result ≡ unwrap_or (tree.get site_order ports.now site.now) 0 }
 {
-    if let Some(network) = port_at(address, value) {
-        networks.push(network)?;
+    match ports.get(site) {
+        Some(count) => *count,
+        None => 0,
     }
+}
+
+/// One port more is counted.
+fn count_in(ports: &mut Ports, site: Option<Site>) -> Result<(), NoMemory>
+    requires { IfSome site (λ s. unwrap_or (tree.get site_order ports.old s) 0 < 2 ^ 63) }
+    ensures ok { OnOk result ((f : SiteOf → ℕ) → Counts ports.old f → Counts ports.new (λ s. one_at site s + f s)) }
+    ensures err { OnErr result ((f : SiteOf → ℕ) → Counts ports.old f → Counts ports.new f) }
+{
+    let Some(site) = site else {
+        return Ok(());
+    };
+    let count = count_at(ports, &site);
+    ports.insert(site, count + 1)?;
     Ok(())
 }
 
-/// Whether an object is a port at an address of the network of a number.
-fn is_port_of(address: Addr, number: u16, value: &LowValue) -> bool
-    ensures { result ≡ is_numbered number (port_at address value.now) }
+/// One port less is counted. It takes no memory.
+fn count_out(ports: &mut Ports, site: Option<Site>)
+    ensures { (f : SiteOf → ℕ) → Counts ports.old (λ s. one_at site s + f s) → Counts ports.new f }
 {
-    match port_at(address, value) {
-        Some(network) => network.0 == number,
-        None => false,
+    let Some(site) = site else {
+        return;
+    };
+    let count = count_at(ports, &site);
+    if count <= 1 {
+        ports.remove(&site);
+        return;
+    }
+    let _ = ports.insert(site, count - 1);
+}
+
+/// Puts an object, and counts it where it is a port.
+pub(crate) fn put_object(
+    low: &mut Objects,
+    ports: &mut Ports,
+    key: LowKey,
+    value: LowValue,
+) -> Result<(), NoMemory>
+    requires { AreCounted ports.old (feed_of low.old.entries) }
+    ensures ok { OnOk result (map_of low_order low.new.entries
+        ≡ changed (map_of low_order low.old.entries) (PutOf key value)) }
+    ensures err { OnErr result (low.new.entries ≡ low.old.entries) }
+    ensures counted { AreCounted ports.new (feed_of low.new.entries) }
+{
+    let _held = low.len();
+    let site = site_of(&value);
+    count_in(ports, site)?;
+    match low.insert(key, value) {
+        Ok(Some(before)) => {
+            count_out(ports, site_of(&before));
+            Ok(())
+        }
+        Ok(None) => Ok(()),
+        Err(_) => {
+            count_out(ports, site);
+            Err(NoMemory)
+        }
+    }
+}
+
+/// Drops an object. It takes no memory.
+pub(crate) fn drop_object(low: &mut Objects, ports: &mut Ports, key: &LowKey)
+    requires { AreCounted ports.old (feed_of low.old.entries) }
+    ensures dropped { map_of low_order low.new.entries ≡ changed (map_of low_order low.old.entries) (DropOf key.now) }
+    ensures counted { AreCounted ports.new (feed_of low.new.entries) }
+{
+    let _held = low.len();
+    if let Some(before) = low.remove(key) {
+        count_out(ports, site_of(&before));
     }
 }
 
 /// Whether an attachment is at an address.
-pub(crate) fn is_attached(address: Addr, value: &LowValue) -> bool
+fn is_attached(address: Addr, value: &LowValue) -> bool
     ensures { result ≡ is_at address value.now }
 {
     match value {
@@ -103,46 +131,15 @@ pub(crate) fn is_attached(address: Addr, value: &LowValue) -> bool
 }
 
 impl VpnTables {
-    /// Whether no port is held at a key or behind it. It may say no where none is.
-    fn is_past_ports(&self, key: &LowKey) -> bool
-        ensures { IsTrue result → IsPastPorts self.now.feed key.now }
-    {
-        if self.has_strays {
-            return false;
-        }
-        is_past_attachments(key)
-    }
-
-    /// The networks of the ports at an address.
-    pub(crate) fn networks_at(&self, address: Addr) -> Result<Vec<InstanceId>, NoMemory>
-        ensures { IfOk result (λ networks. networks.items ≡ networks_at self.now.feed address) }
-    {
-        let mut networks = Vec::new(self.alloc);
-        for (key, value) in self.low.iter() {
-            if self.is_past_ports(key) {
-                return Ok(networks);
-            }
-            push_network(&mut networks, address, value)?;
-        }
-        Ok(networks)
-    }
-
-    /// Whether a port of the network of a number is at an address. The walk ends at the first.
+    /// Whether a port of the network of a number is at an address.
     fn has_port(&self, address: Addr, number: u16) -> bool
         ensures { result ≡ list_any (λ n. n.0 == number) (networks_at self.now.feed address) }
     {
-        for (key, value) in self.low.iter() {
-            if self.is_past_ports(key) {
-                return false;
-            }
-            if is_port_of(address, number, value) {
-                return true;
-            }
-        }
-        false
+        let network = InstanceId(number);
+        self.ports.contains_key(&Site { address, network })
     }
 
-    /// Whether an object is of the slice of an address. For an attachment it takes no walk.
+    /// Whether an object is of the slice of an address.
     pub(crate) fn is_in_slice(&self, address: Addr, key: &LowKey, value: &LowValue) -> bool
         ensures { result ≡ is_in_slice self.now.feed address key.now value.now }
     {

@@ -11,6 +11,7 @@ ghost use Rattle.path_select.specs.NodeModel.Uses.{imports, is_known};
 ghost use Rattle.path_select.specs.NodeModel.Paths.{own_path};
 ghost use Rattle.path_select.specs.NodeModel.Tables.{same_prefix};
 ghost use Rattle.vpn_tables.specs.Routes.{path_of};
+ghost use Rattle.vpn_tables.specs.Touched.{imports_one};
 ghost use Rattle.vpn_tables.specs.Views.{agent_of};
 
 use crate::tables::{Agent, VpnTables};
@@ -125,10 +126,10 @@ impl VpnTables {
         hop.place == side.services() && wanted.0 == target(self.asn, side.right()).0
     }
 
-    /// Whether an import of an instance has one of these targets.
-    pub(crate) fn imports_any(&self, i: InstanceId, targets: &[Target]) -> bool
-        ensures { result ≡ list_any (λ t. list_any (λ u. t.0 == u.0)
-            (map (target_of self.now.asn) (imports self.now.feed i))) targets.now }
+    /// Whether an import of an instance has one of these targets: of none where the instance is not known. It takes no
+    /// memory.
+    pub fn imports_any(&self, i: InstanceId, targets: &[Target]) -> bool
+        ensures { result ≡ imports_one self.now targets.now i }
     {
         for wanted in targets {
             if self.imports_target(i, *wanted) {

@@ -5,11 +5,12 @@ ghost use Rattle.path_select.specs.NodeModel.Maps.{object};
 ghost use Rattle.vpn_tables.specs.Ranges.{Fits};
 ghost use Rattle.vpn_tables.specs.Changes.{nothing, with_low, with_route, with_agent, with_publication, without};
 
-use crate::ports::{has_stray, puts_stray};
+use crate::ports::{Objects, Ports, drop_object, put_object};
 use crate::sessions::{change_at, empty_agent, empty_at, name_agent, tell_agent};
 use ov_sync::{Delta, SyncIn};
 use ov_types::{Addr, Label, LowKey, LowValue, NoMemory, UpKey, VpnKey, VpnRoute};
 use std::alloc::Global;
+use std::collections::BTreeMap;
 use std::marker::Model;
 
 /// What a control node holds of its sessions, and what follows from it. Session 0 is the feed; the sessions of peers
@@ -17,9 +18,8 @@ use std::marker::Model;
 #[derive(Drop)]
 pub struct VpnTables {
     pub(crate) asn: u32,
-    pub(crate) low: SyncIn<LowKey, LowValue>,
-    /// Whether a port may be held under a key that names no attachment, where a walk over attachments does not find it.
-    pub(crate) has_strays: bool,
+    pub(crate) low: Objects,
+    pub(crate) ports: Ports,
     /// Of session 1, 2 and so on.
     pub(crate) peers: Vec<SyncIn<VpnKey, VpnRoute>>,
     /// In the order of their sessions.
@@ -44,21 +44,21 @@ impl Model for VpnTables {
 
     ghost coded = { coded_holdings };
 
-    ghost use Rattle.std.specs.Prelude.{◌≡◌, ◌≤◌, false, length, map};
+    ghost use Rattle.std.specs.Prelude.{◌≤◌, length, map};
     ghost use Rattle.ov_sync.specs.Keyed.{map_of, Values};
     ghost use Rattle.vpn_tables.specs.Ranges.{Fits};
-    ghost use Rattle.vpn_tables.specs.Ports.{IsNoStray};
+    ghost use Rattle.vpn_tables.specs.Ports.{AreCounted};
     ghost use Rattle.vpn_tables.specs.Views.{low_order, feed_of, peer_of, agent_of};
 
     ghost view = { λ s. record {
       asn = s.asn;
-      feed = feed_of s.low;
+      feed = feed_of s.low.entries;
       peers = map peer_of s.peers.items;
       agents = map agent_of s.agents.items;
     } };
 
-    ghost invariant = { λ s. Values Fits (map_of low_order s.low) × (length s.peers.items ≤ 65535)
-        × (s.has_strays ≡ false → Values IsNoStray (map_of low_order s.low)) };
+    ghost invariant = { λ s. Values Fits (map_of low_order s.low.entries) × (length s.peers.items ≤ 65535)
+        × AreCounted s.ports (feed_of s.low.entries) };
 }
 
 impl VpnTables {
@@ -68,8 +68,8 @@ impl VpnTables {
     {
         VpnTables {
             asn,
-            low: SyncIn::new(alloc),
-            has_strays: false,
+            low: BTreeMap::new(alloc),
+            ports: BTreeMap::new(alloc),
             peers: Vec::new(alloc),
             agents: Vec::new(alloc),
             alloc,
@@ -83,10 +83,13 @@ impl VpnTables {
         ensures err { OnErr result (self.new ≡ self.old) }
         ensures memory { OnErr result (IsPut delta) }
     {
-        let has_strays = has_stray(self.has_strays, puts_stray(&delta));
-        self.low.apply(delta)?;
-        self.has_strays = has_strays;
-        Ok(())
+        match delta {
+            Delta::Put(key, value) => put_object(&mut self.low, &mut self.ports, key, value),
+            Delta::Drop(key) => {
+                drop_object(&mut self.low, &mut self.ports, &key);
+                Ok(())
+            }
+        }
     }
 
     /// Applies a change that a peer told on its session. Session 0 is the feed, which tells no routes.
@@ -133,8 +136,8 @@ impl VpnTables {
     {
         empty_agent(&mut self.agents, session);
         if session == 0 {
-            self.low.reset();
-            self.has_strays = false;
+            self.low.clear();
+            self.ports.clear();
             return;
         }
         empty_at(&mut self.peers, usize::from(session - 1));

@@ -117,7 +117,7 @@ impl VpnTables {
         ensures { OnOk result (rows.new.items ≡ rows.old.items
             ++ flat_map (rows_if_touched self.now targets.now) (uses self.now.feed)) }
     {
-        for (key, _value) in self.low.iter() {
+        for (key, _value) in self.held_uses() {
             self.push_touched(rows, key, targets)?;
         }
         Ok(())

@@ -7,7 +7,7 @@ ghost use Rattle.path_select.specs.Selection.{plain};
 ghost use Rattle.vpn_tables.specs.Answers.{is_up_at};
 ghost use Rattle.vpn_tables.specs.At.{led_at, led_from};
 
-use crate::received::{keep, wanted};
+use crate::received::keep;
 use crate::tables::IndexedTables;
 use crate::within::{have_labels, have_routes};
 use ov_types::{InstanceId, NoMemory, Prefix};
@@ -56,46 +56,38 @@ impl IndexedTables {
         if !is_among(subnet, side.subnets()) {
             return Ok(false);
         }
-        self.is_up(&side, subnet, side.distance_of(place))
+        Ok(self.is_up(&side, subnet, side.distance_of(place)))
     }
 
     /// Whether an instance received a path within a subnet. It looks at what begins in the subnet alone.
-    fn has_path_within(&self, i: InstanceId, subnet: &Prefix) -> Result<bool, NoMemory>
-        ensures { IfOk result (λ has. has ≡ has_path_within self.now i subnet.now) }
+    fn has_path_within(&self, i: InstanceId, subnet: &Prefix) -> bool
+        ensures { result ≡ has_path_within self.now i subnet.now }
     {
-        let targets = wanted(self.alloc, &self.held, i)?;
-        let wanted = targets.as_slice();
-        let routes = have_routes(&self.routes, subnet, wanted);
-        let labels = have_labels(&self.held, &self.labels, subnet, wanted);
-        Ok(either(routes, labels))
+        let routes = have_routes(&self.held, &self.routes, subnet, i);
+        let labels = have_labels(&self.held, &self.labels, subnet, i);
+        either(routes, labels)
     }
 
     /// Whether a subnet is up at a distance from the end of its side.
-    fn is_up(&self, side: &Side<'_>, subnet: &Prefix, distance: u8) -> Result<bool, NoMemory>
+    fn is_up(&self, side: &Side<'_>, subnet: &Prefix, distance: u8) -> bool
         requires { distance ≤ side.now.chain.services }
-        ensures { IfOk result (λ up. up ≡ is_up self.now side.now subnet.now distance) }
+        ensures { result ≡ is_up self.now side.now subnet.now distance }
     {
-        let mut up = self.has_path_within(side.hop_at(0), subnet)?;
+        let mut up = self.has_path_within(side.hop_at(0), subnet);
         for nearer in 0..distance {
-            up = self.is_up_next(side, subnet, nearer + 1, up)?;
+            up = self.is_up_next(side, subnet, nearer + 1, up);
         }
-        Ok(up)
+        up
     }
 
     /// Whether it is up at a distance, from whether it is one place nearer.
-    fn is_up_next(
-        &self,
-        side: &Side<'_>,
-        subnet: &Prefix,
-        distance: u8,
-        nearer: bool,
-    ) -> Result<bool, NoMemory>
+    fn is_up_next(&self, side: &Side<'_>, subnet: &Prefix, distance: u8, nearer: bool) -> bool
         requires { distance ≤ side.now.chain.services }
-        ensures { IfOk result (λ up. up ≡ (has_path_within self.now (hop_at side.now distance) subnet.now
-            || (is_some (publisher self.now (circuit_at side.now distance)) && nearer))) }
+        ensures { result ≡ (has_path_within self.now (hop_at side.now distance) subnet.now
+            || (is_some (publisher self.now (circuit_at side.now distance)) && nearer)) }
     {
         if nearer && self.is_published(side, distance) {
-            return Ok(true);
+            return true;
         }
         self.has_path_within(side.hop_at(distance), subnet)
     }
@@ -119,53 +111,47 @@ impl IndexedTables {
     ) -> Result<(), NoMemory>
         ensures { OnOk result (paths.new.items ≡ paths.old.items ++ map plain (led_at self.now i prefix.now right)) }
     {
-        let path = self.led_at(i, prefix, right)?;
+        let path = self.led_at(i, prefix, right);
         keep(paths, path)
     }
 
-    fn led_at(&self, i: InstanceId, prefix: &Prefix, right: bool) -> Result<Option<Path>, NoMemory>
-        ensures { IfOk result (λ path. cons_option path [] ≡ map plain (led_at self.now i prefix.now right)) }
+    fn led_at(&self, i: InstanceId, prefix: &Prefix, right: bool) -> Option<Path>
+        ensures { cons_option result [] ≡ map plain (led_at self.now i prefix.now right) }
     {
         let Some(UseHop { use_no, place }) = hop_of(i) else {
-            return Ok(None);
+            return None;
         };
         let Some(side) = self.held().side(use_no, right) else {
-            return Ok(None);
+            return None;
         };
         if place > side.services() {
-            return Ok(None);
+            return None;
         }
         if !is_among(prefix, side.subnets()) {
-            return Ok(None);
+            return None;
         }
         self.led_from(&side, prefix, side.distance_of(place))
     }
 
-    fn led_from(
-        &self,
-        side: &Side<'_>,
-        prefix: &Prefix,
-        distance: u8,
-    ) -> Result<Option<Path>, NoMemory>
+    fn led_from(&self, side: &Side<'_>, prefix: &Prefix, distance: u8) -> Option<Path>
         requires { distance ≤ side.now.chain.services }
-        ensures { IfOk result (λ path. cons_option path []
-            ≡ map plain (led_from self.now side.now distance prefix.now)) }
+        ensures { cons_option result [] ≡ map plain (led_from self.now side.now distance prefix.now) }
     {
         if distance == 0 {
-            return Ok(None);
+            return None;
         }
         let Some((address, label)) = self.held().publisher(side.circuit_at(distance)) else {
-            return Ok(None);
+            return None;
         };
-        if !self.is_up(side, prefix, distance - 1)? {
-            return Ok(None);
+        if !self.is_up(side, prefix, distance - 1) {
+            return None;
         }
         let hop = side.hop_at(distance);
-        Ok(Some(Path {
+        Some(Path {
             session: OWN_SESSION,
             rd: rd(address, hop),
             next_hop: address,
             label,
-        }))
+        })
     }
 }

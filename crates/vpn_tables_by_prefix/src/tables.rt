@@ -16,7 +16,7 @@ use crate::forgetting::{forget_labels, forget_routes};
 use crate::kept::{drop_label, drop_route, put_label, put_route};
 use crate::keys::{LabelAt, Labels, Routes, place_told, told_key};
 use crate::publishing::has_label;
-use crate::received::{push_labels, push_routes, wanted};
+use crate::received::{push_labels, push_routes};
 use crate::selecting::{best_of, shown};
 use ov_sync::Delta;
 use ov_types::{
@@ -165,11 +165,9 @@ impl IndexedTables {
         ensures { IfOk result (λ paths. (p : PathOf)
             → Member p paths.items ↔ Member p (received_at self.now i prefix.now)) }
     {
-        let targets = wanted(self.alloc, &self.held, i)?;
-        let wanted = targets.as_slice();
         let mut paths = Vec::new(self.alloc);
-        push_routes(&mut paths, &self.routes, prefix, wanted)?;
-        push_labels(&mut paths, &self.held, &self.labels, prefix, wanted)?;
+        push_routes(&mut paths, &self.held, &self.routes, prefix, i)?;
+        push_labels(&mut paths, &self.held, &self.labels, prefix, i)?;
         Ok(paths)
     }
 

@@ -6,13 +6,13 @@ ghost use Rattle.ov_types.specs.Prefix.{is_inside, size_of};
 ghost use Rattle.ov_types.specs.declared.numbers.Label.{Label as LabelOf};
 ghost use Rattle.ov_types.specs.declared.vpn.VpnRoute.{VpnRoute as RouteOf};
 ghost use Rattle.vpn_tables_by_prefix.specs.Indexed.{is_label_within, is_route_within, label_order, leads_label};
-ghost use Rattle.vpn_tables_by_prefix.specs.Indexed.{leads_route, route_order};
+ghost use Rattle.vpn_tables_by_prefix.specs.Indexed.{leads_route, route_order, wanted_by};
 ghost use Rattle.vpn_tables_by_prefix.specs.declared.keys.LabelAt.{LabelAt as LabelAtOf};
 ghost use Rattle.vpn_tables_by_prefix.specs.declared.keys.RouteAt.{RouteAt as RouteAtOf};
 
 use crate::keys::{LabelAt, Labels, RouteAt, Routes};
 use crate::received::{label_path, route_path};
-use ov_types::{Addr, InstanceId, Label, Prefix, Rd, Target, VpnRoute};
+use ov_types::{Addr, InstanceId, Label, Prefix, Rd, VpnRoute};
 use std::collections::btree_map::Range;
 use std::ops::Bound;
 use vpn_tables::VpnTables;
@@ -94,57 +94,52 @@ fn labels_in<'a>(labels: &'a Labels, subnet: &Prefix) -> Range<'a, LabelAt, Labe
     labels.range((Bound::Included(first), Bound::Excluded(past)))
 }
 
-/// Whether a route is within a subnet and has a wanted target.
-fn leads_route(wanted: &[Target], subnet: &Prefix, at: &RouteAt, route: &VpnRoute) -> bool
-    ensures { result ≡ leads_route wanted.now subnet.now (at.now, route.now) }
-{
-    if !is_within(at.addr, at.len, subnet) {
-        return false;
-    }
-    route_path(wanted, at, route).is_some()
-}
-
-/// Whether a publication is within a subnet, of a known instance, and has a wanted target.
-fn leads_label(
+/// Whether a route is within a subnet, and an instance imports it.
+fn leads_route(
     held: &VpnTables,
-    wanted: &[Target],
+    i: InstanceId,
     subnet: &Prefix,
-    at: &LabelAt,
-    label: Label,
+    at: &RouteAt,
+    route: &VpnRoute,
 ) -> bool
-    ensures { result ≡ leads_label held.now wanted.now subnet.now (at.now, label) }
+    ensures { result ≡ leads_route (wanted_by held.now i) subnet.now (at.now, route.now) }
 {
     if !is_within(at.addr, at.len, subnet) {
         return false;
     }
-    label_path(held, wanted, at, label).is_some()
+    route_path(held, i, at, route).is_some()
 }
 
-/// Whether a peer told something within a subnet that has a wanted target.
-pub(crate) fn have_routes(routes: &Routes, subnet: &Prefix, wanted: &[Target]) -> bool
+/// Whether a publication is within a subnet and of a known instance, and an instance imports it.
+fn leads_label(held: &VpnTables, i: InstanceId, subnet: &Prefix, at: &LabelAt, label: Label) -> bool
+    ensures { result ≡ leads_label held.now (wanted_by held.now i) subnet.now (at.now, label) }
+{
+    if !is_within(at.addr, at.len, subnet) {
+        return false;
+    }
+    label_path(held, i, at, label).is_some()
+}
+
+/// Whether a peer told something within a subnet that an instance imports.
+pub(crate) fn have_routes(held: &VpnTables, routes: &Routes, subnet: &Prefix, i: InstanceId) -> bool
     ensures ordered { IsOrdered route_order routes.now }
-    ensures leads { result ≡ list_any (leads_route wanted.now subnet.now) routes.now.entries }
+    ensures leads { result ≡ list_any (leads_route (wanted_by held.now i) subnet.now) routes.now.entries }
 {
     for (at, route) in routes_in(routes, subnet) {
-        if leads_route(wanted, subnet, at, route) {
+        if leads_route(held, i, subnet, at, route) {
             return true;
         }
     }
     false
 }
 
-/// Whether an agent publishes something within a subnet that has a wanted target.
-pub(crate) fn have_labels(
-    held: &VpnTables,
-    labels: &Labels,
-    subnet: &Prefix,
-    wanted: &[Target],
-) -> bool
+/// Whether an agent publishes something within a subnet that an instance imports.
+pub(crate) fn have_labels(held: &VpnTables, labels: &Labels, subnet: &Prefix, i: InstanceId) -> bool
     ensures ordered { IsOrdered label_order labels.now }
-    ensures leads { result ≡ list_any (leads_label held.now wanted.now subnet.now) labels.now.entries }
+    ensures leads { result ≡ list_any (leads_label held.now (wanted_by held.now i) subnet.now) labels.now.entries }
 {
     for (at, label) in labels_in(labels, subnet) {
-        if leads_label(held, wanted, subnet, at, *label) {
+        if leads_label(held, i, subnet, at, *label) {
             return true;
         }
     }

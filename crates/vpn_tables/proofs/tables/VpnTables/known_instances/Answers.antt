@@ -1,27 +1,26 @@
 use Rattle.std.proofs.Common.{◌++◌, ap, sym, ◌∙◌, List, subst}
-use Rattle.std.specs.List.{AllByRecursion, filter_map}
+use Rattle.std.specs.List.{AllByRecursion, filter_map, flat_map}
 use Rattle.std.specs.Map.Iter.{deref_pair}
 use Rattle.std.proofs.lemmas.Map.Iter.{rest_more}
 use Rattle.ov_types.specs.declared.objects.LowKey.{LowKey}
 use Rattle.ov_types.specs.declared.objects.LowValue.{LowValue}
 use Rattle.path_select.specs.NodeModel.Maps.{objects}
-use Rattle.path_select.specs.NodeModel.Paths.{Holdings}
 use Rattle.path_select.specs.NodeModel.Tables.{network_of}
-use Rattle.vpn_tables.proofs.Listed.{objects_are, places, places_turn}
-use Rattle.vpn_tables.proofs.Uses.{all_held, IsHeld}
+use Rattle.path_select.specs.NodeModel.Uses.{Use}
+use Rattle.vpn_tables.specs.Kinds.{IsHeld}
+use Rattle.vpn_tables.specs.Listing.{hops}
+use Rattle.vpn_tables.proofs.KindWalks.{uses_in}
+use Rattle.vpn_tables.proofs.Listed.{places, places_turn}
 use Rattle.vpn_tables.proofs.tables.VpnTables.known_instances.Goals as goal
 
 pub loop-key-init : goal.loop-key-init
 loop-key-init c =
     let feed = c.args.self.now.feed in
-    let es = c.self.inside.low in
-    let is = ap (λ (h : Holdings). h.feed) c.self.view_is in
-    let it = c.into_iter-key-iterator.ensures.into_iter_gives ∙ c.iter-key-items.ensures.entries in
+    let it = c.into_iter-key-iterator.ensures.into_iter_gives ∙ c.held_uses-key-items.ensures.uses in
     record {
       so_far = (λ i. c.in_ok-instances.ensures i ++ places (it i))
-          ∙ ap (λ (l : List (LowKey × LowValue)). filter_map (λ (e : LowKey × LowValue). network_of e.0) (objects feed) ++ places l)
-          (objects_are feed es c.iter-key-items.ensures.ascending is);
-      held = subst (λ (l : List (LowKey × LowValue)). AllByRecursion (IsHeld feed) l) (sym it) (all_held feed es c.iter-key-items.ensures.ascending is);
+          ∙ ap (λ (us : List Use). filter_map (λ (e : LowKey × LowValue). network_of e.0) (objects feed) ++ flat_map hops us) (uses_in (objects feed));
+      held = subst (λ (l : List (LowKey × LowValue)). AllByRecursion (IsHeld feed) l) (sym c.into_iter-key-iterator.ensures.into_iter_gives) c.held_uses-key-items.ensures.held;
     }
 
 pub loop-key-preserved : goal.loop-key-preserved

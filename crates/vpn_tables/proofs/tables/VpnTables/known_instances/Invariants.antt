@@ -1,8 +1,8 @@
 use Rattle.std.proofs.Common.{◌≡◌, ◌++◌}
 use Rattle.std.specs.List.{AllByRecursion}
 use Rattle.path_select.specs.NodeModel.Tables.{known_instances}
+use Rattle.vpn_tables.specs.Kinds.{IsHeld}
 use Rattle.vpn_tables.proofs.Listed.{places}
-use Rattle.vpn_tables.proofs.Uses.{IsHeld}
 use Rattle.vpn_tables.proofs.tables.VpnTables.known_instances.Given as goal
 
 abbrev pub invariant-loop-key : goal.invariant-loop-key

@@ -17,8 +17,8 @@ pub returns-in-Some : goal.returns-in-Some
 returns-in-Some c =
     let h = c.args.self.now in
     let k = c.args.key.now in
-    let short = subst (λ (h : Holdings). AreShort h.feed) c.self.view_is (short_feed c.self.inside.low c.self.invariant.0) in
-    let numbered = subst (λ (h : Holdings). AreNumbered h.feed) c.self.view_is (numbered_feed c.self.inside.low c.self.invariant.0) in
+    let short = subst (λ (h : Holdings). AreShort h.feed) c.self.view_is (short_feed c.self.inside.low.entries c.self.invariant.0) in
+    let numbered = subst (λ (h : Holdings). AreNumbered h.feed) c.self.view_is (numbered_feed c.self.inside.low.entries c.self.invariant.0) in
     let right = ap (λ (i : InstanceId). first_keyed k (led_at h i k.prefix true)) (sym c.instance_of-hop.ensures) ∙ sym c.led_keyed_at.ensures ∙ ap (option_map path_of) c.in-Some.is in
     sym (led_first h k short numbered ∙ ap (λ (o : Option Path). first_some o (first_keyed k (led_at h (instance_in k.rd) k.prefix false))) right)
 
@@ -26,8 +26,8 @@ pub returns-in-None : goal.returns-in-None
 returns-in-None c =
     let h = c.args.self.now in
     let k = c.args.key.now in
-    let short = subst (λ (h : Holdings). AreShort h.feed) c.self.view_is (short_feed c.self.inside.low c.self.invariant.0) in
-    let numbered = subst (λ (h : Holdings). AreNumbered h.feed) c.self.view_is (numbered_feed c.self.inside.low c.self.invariant.0) in
+    let short = subst (λ (h : Holdings). AreShort h.feed) c.self.view_is (short_feed c.self.inside.low.entries c.self.invariant.0) in
+    let numbered = subst (λ (h : Holdings). AreNumbered h.feed) c.self.view_is (numbered_feed c.self.inside.low.entries c.self.invariant.0) in
     let right = ap (λ (i : InstanceId). first_keyed k (led_at h i k.prefix true)) (sym c.instance_of-hop.ensures) ∙ sym c.led_keyed_at.ensures ∙ ap (option_map path_of) c.in-None.is in
     c.led_keyed_at-in-None.ensures ∙ ap (λ (i : InstanceId). first_keyed k (led_at h i k.prefix false)) c.instance_of-hop.ensures
     ∙ sym (led_first h k short numbered ∙ ap (λ (o : Option Path). first_some o (first_keyed k (led_at h (instance_in k.rd) k.prefix false))) right)

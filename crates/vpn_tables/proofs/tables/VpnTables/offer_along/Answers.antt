@@ -16,7 +16,7 @@ pub returns : goal.returns
 returns c =
     let h = c.args.self.now in
     let i = c.args.i in
-    let short = subst (λ (h : Holdings). AreShort h.feed) c.self.view_is (short_feed c.self.inside.low c.self.invariant.0) in
+    let short = subst (λ (h : Holdings). AreShort h.feed) c.self.view_is (short_feed c.self.inside.low.entries c.self.invariant.0) in
     let along : ℕ → List Path = (λ n. flat_map (leads h) (sides_of_held (use_at h.feed (key.ChainUse n)))) in
     let led = ap (map path_of) c.as_slice.ensures.value ∙ c.in_ok-lead_use.ensures ∙ ap (λ (l : List Route). map path_of l ++ along c.args.number) c.new-routes.ensures.items in
     let to = c.target.ensures ∙ ap (λ (h : Holdings). target_of h.asn i) c.self.view_is in

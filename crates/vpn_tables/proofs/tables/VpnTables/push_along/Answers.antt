@@ -4,22 +4,19 @@ use Rattle.std.specs.Map.Iter.{deref_pair}
 use Rattle.std.proofs.lemmas.Map.Iter.{rest_more}
 use Rattle.ov_types.specs.declared.objects.LowKey.{LowKey}
 use Rattle.ov_types.specs.declared.objects.LowValue.{LowValue}
-use Rattle.path_select.specs.NodeModel.Paths.{Holdings}
+use Rattle.vpn_tables.specs.Kinds.{IsHeld}
 use Rattle.vpn_tables.specs.Touched.{rows_if_touched}
-use Rattle.vpn_tables.proofs.Along.{along, along_turn}
-use Rattle.vpn_tables.proofs.Listed.{objects_are}
-use Rattle.vpn_tables.proofs.Uses.{IsHeld, all_held}
+use Rattle.vpn_tables.proofs.Along.{along, along_held, along_turn}
 use Rattle.vpn_tables.proofs.tables.VpnTables.push_along.Goals as goal
 
 pub loop-key-init : goal.loop-key-init
 loop-key-init c =
     let h = c.args.self.now in
-    let es = c.self.inside.low in
-    let is = ap (λ (h : Holdings). h.feed) c.self.view_is in
-    let it = c.into_iter-key-iterator.ensures.into_iter_gives ∙ c.iter-key-items.ensures.entries in
+    let f = rows_if_touched h c.args.targets.now in
+    let it = c.into_iter-key-iterator.ensures.into_iter_gives ∙ c.held_uses-key-items.ensures.uses in
     record {
-      so_far = ap (λ (l : List (LowKey × LowValue)). c.args.rows.now.items ++ along (rows_if_touched h c.args.targets.now) l) (it ∙ objects_are h.feed es c.iter-key-items.ensures.ascending is);
-      held = subst (λ (l : List (LowKey × LowValue)). AllByRecursion (IsHeld h.feed) l) (sym it) (all_held h.feed es c.iter-key-items.ensures.ascending is);
+      so_far = (λ i. c.args.rows.now.items ++ (ap (along f) it ∙ along_held f h.feed) i);
+      held = subst (λ (l : List (LowKey × LowValue)). AllByRecursion (IsHeld h.feed) l) (sym c.into_iter-key-iterator.ensures.into_iter_gives) c.held_uses-key-items.ensures.held;
     }
 
 pub loop-key-preserved : goal.loop-key-preserved

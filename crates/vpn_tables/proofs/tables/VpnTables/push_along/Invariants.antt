@@ -1,9 +1,9 @@
 use Rattle.std.proofs.Common.{◌≡◌, ◌++◌}
 use Rattle.std.specs.List.{AllByRecursion, flat_map}
 use Rattle.path_select.specs.NodeModel.Uses.{uses}
+use Rattle.vpn_tables.specs.Kinds.{IsHeld}
 use Rattle.vpn_tables.specs.Touched.{rows_if_touched}
 use Rattle.vpn_tables.proofs.Along.{along}
-use Rattle.vpn_tables.proofs.Uses.{IsHeld}
 use Rattle.vpn_tables.proofs.tables.VpnTables.push_along.Given as goal
 
 abbrev pub invariant-loop-key : goal.invariant-loop-key

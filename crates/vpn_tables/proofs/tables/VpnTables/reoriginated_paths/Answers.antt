@@ -4,20 +4,18 @@ use Rattle.std.specs.Map.Iter.{deref_pair}
 use Rattle.std.proofs.lemmas.Map.Iter.{rest_more}
 use Rattle.ov_types.specs.declared.objects.LowKey.{LowKey}
 use Rattle.ov_types.specs.declared.objects.LowValue.{LowValue}
-use Rattle.path_select.specs.NodeModel.Paths.{Holdings}
+use Rattle.vpn_tables.specs.Kinds.{IsHeld}
 use Rattle.vpn_tables.specs.Routes.{path_of}
-use Rattle.vpn_tables.proofs.Uses.{total, total_is, all_held, led_turn, IsHeld}
+use Rattle.vpn_tables.proofs.Uses.{total, total_is, led_turn}
 use Rattle.vpn_tables.proofs.tables.VpnTables.reoriginated_paths.Goals as goal
 
 pub loop-key-init : goal.loop-key-init
 loop-key-init c =
     let h = c.args.self.now in
-    let es = c.self.inside.low in
-    let feed = ap (λ (h : Holdings). h.feed) c.self.view_is in
-    let it = c.into_iter-key-iterator.ensures.into_iter_gives ∙ c.iter-key-items.ensures.entries in
+    let it = c.into_iter-key-iterator.ensures.into_iter_gives ∙ c.held_uses-key-items.ensures.uses in
     record {
-      so_far = (λ i. map path_of (c.new-routes.ensures.items i) ++ total h (it i)) ∙ total_is h es c.iter-key-items.ensures.ascending feed;
-      held = subst (λ (l : List (LowKey × LowValue)). AllByRecursion (IsHeld h.feed) l) (sym it) (all_held h.feed es c.iter-key-items.ensures.ascending feed);
+      so_far = (λ i. map path_of (c.new-routes.ensures.items i) ++ total h (it i)) ∙ total_is h;
+      held = subst (λ (l : List (LowKey × LowValue)). AllByRecursion (IsHeld h.feed) l) (sym c.into_iter-key-iterator.ensures.into_iter_gives) c.held_uses-key-items.ensures.held;
     }
 
 pub loop-key-preserved : goal.loop-key-preserved

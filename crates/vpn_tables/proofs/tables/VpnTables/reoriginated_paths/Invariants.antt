@@ -1,8 +1,9 @@
 use Rattle.std.proofs.Common.{◌≡◌, ◌++◌, map}
 use Rattle.std.specs.List.{AllByRecursion}
 use Rattle.path_select.specs.NodeModel.Reaching.{reoriginated_paths}
+use Rattle.vpn_tables.specs.Kinds.{IsHeld}
 use Rattle.vpn_tables.specs.Routes.{path_of}
-use Rattle.vpn_tables.proofs.Uses.{total, IsHeld}
+use Rattle.vpn_tables.proofs.Uses.{total}
 use Rattle.vpn_tables.proofs.tables.VpnTables.reoriginated_paths.Given as goal
 
 abbrev pub invariant-loop-key : goal.invariant-loop-key

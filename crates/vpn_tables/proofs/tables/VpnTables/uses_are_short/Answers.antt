@@ -5,4 +5,4 @@ use Rattle.vpn_tables.proofs.Short.{short_feed}
 use Rattle.vpn_tables.proofs.tables.VpnTables.uses_are_short.Goals as goal
 
 pub returns : goal.returns
-returns c = subst (λ (h : Holdings). AreShort h.feed) c.self.view_is (short_feed c.self.inside.low c.self.invariant.0)
+returns c = subst (λ (h : Holdings). AreShort h.feed) c.self.view_is (short_feed c.self.inside.low.entries c.self.invariant.0)

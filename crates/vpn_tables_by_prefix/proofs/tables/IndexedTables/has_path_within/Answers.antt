@@ -1,9 +1,7 @@
 use Rattle.std.proofs.Common.{◌∙◌, ap}
 use Rattle.std.specs.Prelude.{◌||◌}
-use Rattle.std.specs.List.{list_any}
 use Rattle.control_silent_agent_laws.specs.NodeModel.Paths.{Holdings}
 use Rattle.control_silent_agent_laws.specs.NodeModel.Reaching.{has_path_within}
-use Rattle.vpn_tables_by_prefix.specs.Indexed.{leads_label, leads_route}
 use Rattle.vpn_tables_by_prefix.proofs.Subnets.{any_is}
 use Rattle.vpn_tables_by_prefix.proofs.tables.IndexedTables.has_path_within.Goals as goal
 
@@ -11,10 +9,8 @@ pub returns : goal.returns
 returns c =
     let s = c.self.inside in
     let v = c.self.invariant in
-    let wanted = c.as_slice-wanted.ensures.value ∙ c.in_ok-targets.ensures in
     let routes = c.have_routes-routes.ensures in
     let labels = c.have_labels-labels.ensures in
-    c.either.ensures
-    ∙ (λ n. (routes.leads ∙ (λ m. list_any (leads_route (wanted m) c.args.subnet.now) s.routes.entries)) n || (labels.leads ∙ (λ m. list_any (leads_label s.held (wanted m) c.args.subnet.now) s.labels.entries)) n)
+    c.either.ensures ∙ (λ n. routes.leads n || labels.leads n)
     ∙ any_is s.held c.args.i c.args.subnet.now s.routes s.labels v.0 v.1.0 v.1.1 routes.ordered labels.ordered
     ∙ ap (λ (h : Holdings). has_path_within h c.args.i c.args.subnet.now) c.self.view_is

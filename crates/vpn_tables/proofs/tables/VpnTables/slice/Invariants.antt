@@ -1,7 +1,7 @@
 use Rattle.std.proofs.Common.{◌≡◌, ◌++◌}
 use Rattle.std.specs.List.{filter}
 use Rattle.path_select.specs.NodeModel.Wants.{is_in_slice, slice}
-use Rattle.vpn_tables.proofs.tables.VpnTables.slice_among.Given as goal
+use Rattle.vpn_tables.proofs.tables.VpnTables.slice.Given as goal
 
 abbrev pub invariant-loop-key : goal.invariant-loop-key
 invariant-loop-key l =
