@@ -18,7 +18,7 @@ use Rattle.control_silent_agent_laws.proofs.Quiet.{quiet_by_agent, quiet_by_peer
 use Rattle.rt_constrain.specs.Asking.{asked, asked_for, asked_order, cut}
 use Rattle.rt_constrain.specs.Covering.{covers}
 use Rattle.rt_constrain.specs.Needed.{instance_order, needed, reason}
-use Rattle.control_needed_route_laws.specs.Cut.{restricted}
+use Rattle.rt_constrain.specs.Cut.{restricted}
 use Rattle.constrain_answers.specs.Networks.{NeedsNoMore}
 
 no_keys : (t : Told) → t.map ≡ empty → keys_told t ≡ []

@@ -7,7 +7,7 @@ ghost use Rattle.control_node.specs.Made.{new_agent, new_ends, new_peer, none_to
 use crate::ends::{AgentEnd, ControlEnds, PeerEnd};
 use crate::plan::ControlPlan;
 use bgp_session::Session;
-use control_marked_keys::Dirty;
+use control_marks::Dirty;
 use item_wire::{ItemFrom, ItemSession};
 use node_items::config_name;
 use ov_sync::{Delta, SyncOut};

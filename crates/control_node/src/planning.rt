@@ -21,13 +21,12 @@ ghost use Rattle.control_node.specs.Planning.{
   peer_plan,
 };
 ghost use Rattle.control_node.specs.Tracking.{AreAgentsTracked, IsAgentTracked, IsPeerTracked, Tracks};
-ghost use Rattle.control_marked_sends.specs.Marked.{AreMarkedItems};
-ghost use Rattle.control_marked_sends.specs.Wanted.{AreRoutesWanted};
+ghost use Rattle.control_marks.specs.Marked.{AreMarkedItems};
+ghost use Rattle.control_marks.specs.Wanted.{AreRoutesWanted};
 
 use crate::ends::{AgentEnd, PeerEnd};
-use control_marked_keys::Dirty;
-use control_marked_sends::{
-    MarkedItem, RoutesWanted, items_marked, routes_wanted, tell_agent, tell_peer,
+use control_marks::{
+    Dirty, MarkedItem, RoutesWanted, items_marked, routes_wanted, tell_agent, tell_peer,
 };
 use node_core::Plan;
 use ov_sync::Delta;

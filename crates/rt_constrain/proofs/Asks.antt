@@ -15,9 +15,9 @@ use Rattle.node_model.specs.Uses.{imports}
 use Rattle.node_model.specs.Wants.{wanted_by_agent, wanted_by_peers}
 use Rattle.node_model.proofs.Members.{any_in, in_map, from_map, in_flat_map, from_flat_map}
 use Rattle.vpn_tables.specs.Gathered.{in_order}
-use Rattle.control_needed_route_laws.specs.Needed.{UsesFit}
-use Rattle.control_needed_route_laws.specs.Cut.{IsOfUse, PassesWhatIsOfUse}
-use Rattle.control_needed_route_laws.proofs.Same.{agents_same, peers_same, table_same}
+use Rattle.rt_constrain.specs.Needs.{UsesFit}
+use Rattle.rt_constrain.specs.Cut.{IsOfUse, PassesWhatIsOfUse}
+use Rattle.rt_constrain.proofs.Same.{agents_same, peers_same, table_same}
 use Rattle.rt_membership.specs.Asked.{IsAsked}
 use Rattle.rt_membership.specs.declared.asked.Asked.{Asked}
 use Rattle.rt_constrain.specs.Covering.{agree, AreAsked, covers, is_covered_by}

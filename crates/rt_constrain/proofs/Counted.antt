@@ -7,7 +7,7 @@ use Rattle.ov_sync.specs.Embed.{moved_entry}
 use Rattle.node_model.specs.Keys.{Key, Vpn}
 use Rattle.node_model.specs.Values.{Route}
 use Rattle.ov_types.specs.declared.vpn.VpnRoute.{VpnRoute}
-use Rattle.control_needed_route_laws.specs.Cut.{restricted}
+use Rattle.rt_constrain.specs.Cut.{restricted}
 use Rattle.vpn_tables.specs.Views.{peer_of, vpn_order}
 use Rattle.vpn_tables.proofs.Images.{peer-entries}
 use Rattle.rt_constrain.specs.Sharing.{count}

@@ -27,7 +27,7 @@ use Rattle.node_model.proofs.Orders.{key_total, key_exact}
 use Rattle.node_model.proofs.Directions.{up_total, up_exact}
 use Rattle.vpn_tables.specs.Gathered.{held_keys, in_order, keys_told, up_key}
 use Rattle.vpn_tables.specs.Views.{up_order}
-use Rattle.control_needed_route_laws.specs.Needed.{IsAcross, IsNeeded, IsSubscribedHere, instance_across, is_circuit}
+use Rattle.rt_constrain.specs.Needs.{IsAcross, IsNeeded, IsSubscribedHere, instance_across, is_circuit}
 use Rattle.rt_constrain.specs.Needed.{circuit_numbered, instance_order, is_of_circuit, needed, reason, up_keys}
 use Rattle.rt_constrain.proofs.Ordered.{instance_exact, instance_total, in_order_ascends, into_order, from_order}
 

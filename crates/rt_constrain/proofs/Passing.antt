@@ -12,7 +12,7 @@ use Rattle.node_model.specs.Keys.{Key, Vpn, key_cmp}
 use Rattle.node_model.specs.Values.{Value, Route}
 use Rattle.node_model.specs.Maps.{Map}
 use Rattle.node_model.proofs.Directions.{vpn_total}
-use Rattle.control_needed_route_laws.specs.Cut.{passes, restricted}
+use Rattle.rt_constrain.specs.Cut.{passes, restricted}
 use Rattle.vpn_tables.specs.Views.{peer_of, vpn_order}
 use Rattle.vpn_tables.proofs.Images.{peer-entries}
 use Rattle.rt_constrain.proofs.Ordered.{keys_sorted}

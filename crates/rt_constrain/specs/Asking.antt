@@ -8,8 +8,8 @@ use Rattle.node_model.specs.Members.{Member}
 use Rattle.node_model.specs.Paths.{Holdings}
 use Rattle.node_model.specs.Uses.{imports}
 use Rattle.vpn_tables.specs.Gathered.{in_order}
-use Rattle.control_needed_route_laws.specs.Cut.{cut_to}
-use Rattle.control_needed_route_laws.specs.Needed.{IsNeeded}
+use Rattle.rt_constrain.specs.Cut.{cut_to}
+use Rattle.rt_constrain.specs.Needs.{IsNeeded}
 use Rattle.rt_membership.specs.contracts.asked.AskedOrd.TheImpl as entries
 use Rattle.rt_membership.specs.declared.asked.Asked.{Asked}
 use Rattle.rt_constrain.specs.Covering.{covers}

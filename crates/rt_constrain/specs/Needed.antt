@@ -13,7 +13,7 @@ use Rattle.node_model.specs.Paths.{Holdings}
 use Rattle.node_model.specs.Uses.{is_known}
 use Rattle.vpn_tables.specs.Gathered.{held_keys, in_order}
 use Rattle.vpn_tables.specs.Views.{up_order}
-use Rattle.control_needed_route_laws.specs.Needed.{instance_across, is_circuit}
+use Rattle.rt_constrain.specs.Needs.{instance_across, is_circuit}
 
 abbrev pub instance_order : InstanceId → InstanceId → Ordering
 instance_order = instances.ghosts.cmp

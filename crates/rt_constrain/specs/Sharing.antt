@@ -2,7 +2,7 @@
 use Rattle.std.specs.Prelude.{ℕ, List, length}
 use Rattle.std.specs.FinMap.{entries}
 use Rattle.node_model.specs.Maps.{Map}
-use Rattle.control_needed_route_laws.specs.Cut.{restricted}
+use Rattle.rt_constrain.specs.Cut.{restricted}
 use Rattle.rt_membership.specs.declared.asked.Asked.{Asked}
 use Rattle.rt_constrain.specs.Covering.{covers}
 use Rattle.rt_constrain.specs.declared.sharing.Share.{Share}

@@ -8,7 +8,7 @@ ghost use Rattle.node_model.specs.Tables.{table};
 ghost use Rattle.node_model.specs.Uses.{imports};
 ghost use Rattle.node_model.specs.Wants.{wanted_by_agent, wanted_by_peers};
 ghost use Rattle.vpn_tables.specs.Gathered.{in_order};
-ghost use Rattle.control_needed_route_laws.specs.Needed.{UsesFit};
+ghost use Rattle.rt_constrain.specs.Needs.{UsesFit};
 ghost use Rattle.rt_constrain.specs.Covering.{AreAsked};
 ghost use Rattle.rt_constrain.specs.Needed.{needed};
 ghost use Rattle.rt_constrain.specs.Asking.{asked, asked_for, asked_order, cut};

@@ -3,7 +3,7 @@ ghost use Rattle.std.specs.Prelude.{◌≡◌, ◌≤◌, map, IfOk, OnOk};
 ghost use Rattle.std.specs.List.{filter, list_any};
 ghost use Rattle.std.specs.List.Sorted.{IsStrictlySortedBy};
 ghost use Rattle.ov_sync.specs.Keyed.{map_of};
-ghost use Rattle.control_needed_route_laws.specs.Cut.{restricted};
+ghost use Rattle.rt_constrain.specs.Cut.{restricted};
 ghost use Rattle.vpn_tables.specs.Views.{peer_of, vpn_order};
 ghost use Rattle.rt_membership.specs.Asked.{IsAsked};
 ghost use Rattle.rt_constrain.specs.Covering.{agree, AreAsked, covers, is_covered_by};

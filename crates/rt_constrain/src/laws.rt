@@ -6,7 +6,7 @@ ghost use Rattle.ov_types.specs.declared.vpn.VpnRoute.{VpnRoute};
 ghost use Rattle.node_model.specs.Members.{Member};
 ghost use Rattle.node_model.specs.Paths.{Holdings};
 ghost use Rattle.node_model.specs.Uses.{imports};
-ghost use Rattle.control_needed_route_laws.specs.Needed.{IsNeeded};
+ghost use Rattle.rt_constrain.specs.Needs.{IsNeeded};
 ghost use Rattle.rt_membership.specs.declared.asked.Asked.{Asked};
 ghost use Rattle.rt_constrain.specs.Covering.{AreAsked, covers, IsCovered};
 ghost use Rattle.rt_constrain.specs.Needed.{instance_order, needed};

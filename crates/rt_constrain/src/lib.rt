@@ -1,8 +1,9 @@
-//! Which routes a control node asks of its peers (RFC 4684), and what a peer then sends.
+//! Which routes a control node asks of its peers (RFC 4684), what a peer then sends, and that nothing else is of use to it.
 #![tactic(auto)]
 
 mod asking;
 mod covering;
+pub mod cut_laws;
 pub mod laws;
 mod needing;
 mod sharing;

@@ -2,7 +2,7 @@
 ghost use Rattle.std.specs.Prelude.{◌≡◌, ◌++◌, IfOk, IsTrue};
 ghost use Rattle.std.specs.List.{filter, filter_map};
 ghost use Rattle.node_model.specs.Uses.{is_known};
-ghost use Rattle.control_needed_route_laws.specs.Needed.{instance_across, is_circuit, UsesFit};
+ghost use Rattle.rt_constrain.specs.Needs.{instance_across, is_circuit, UsesFit};
 ghost use Rattle.rt_constrain.specs.Needed.{circuit_numbered, is_of_circuit, needed, reason};
 
 use ov_types::{InstanceId, NoMemory, Prefix, UpKey};

@@ -28,7 +28,7 @@ use Rattle.node_model.specs.Reaching.{Side, below, circuit_at, hop_at, into, is_
 use Rattle.vpn_tables.specs.Answers.{seen_from, side_at}
 use Rattle.vpn_tables.specs.Changes.{with_low}
 use Rattle.vpn_tables.specs.Leading.{leads, sides_of_held}
-use Rattle.control_touched_laws.proofs.Objects.{object_stays, uses_stay}
+use Rattle.control_change_laws.proofs.Objects.{object_stays, uses_stay}
 use Rattle.vpn_stored_rows.specs.Led.{routes_at}
 use Rattle.vpn_stored_rows.specs.Reached.{AreReached, reached_at}
 use Rattle.vpn_stored_rows.specs.Up.{up_from, ups_at, ups_of, ups_of_held}

@@ -34,13 +34,13 @@ use Rattle.vpn_tables.specs.Leading.{leads, sides_of_held}
 use Rattle.vpn_tables.specs.Listing.{hops}
 use Rattle.vpn_tables.specs.Moved.{moved_by_publication, moved_by_route, place_by_publication, targets_by_publication, targets_by_route}
 use Rattle.vpn_tables.specs.Touched.{imports_one, is_touched, rows_by_key, rows_at_use, touched_rows}
-use Rattle.control_touched_laws.proofs.Filtering.{false_from, flat_map_same}
-use Rattle.control_touched_laws.proofs.Known.{in_places}
-use Rattle.control_touched_laws.proofs.Led.{importing}
-use Rattle.control_touched_laws.proofs.Moves.{Covers, Moves, told_otherwise}
-use Rattle.control_touched_laws.proofs.Touching.{covers_publication, publication_moves, route_moves, subscription_targets}
-use Rattle.control_touched_laws.proofs.Untouched.{circuit_place, received_same}
-use Rattle.control_touched_laws.proofs.Wanted.{at_row}
+use Rattle.control_change_laws.proofs.Filtering.{false_from, flat_map_same}
+use Rattle.control_change_laws.proofs.Known.{in_places}
+use Rattle.control_change_laws.proofs.Led.{importing}
+use Rattle.control_change_laws.proofs.Moves.{Covers, Moves, told_otherwise}
+use Rattle.control_change_laws.proofs.Touching.{covers_publication, publication_moves, route_moves, subscription_targets}
+use Rattle.control_change_laws.proofs.Untouched.{circuit_place, received_same}
+use Rattle.control_change_laws.proofs.Wanted.{at_row}
 use Rattle.vpn_stored_rows.specs.Led.{routes_at}
 use Rattle.vpn_stored_rows.specs.Reached.{is_of, is_row_of, reached_at}
 use Rattle.vpn_stored_rows.specs.Up.{up_from, ups_of, ups_of_held}

@@ -32,10 +32,10 @@ use Rattle.vpn_tables.specs.Answers.{rows_at}
 use Rattle.vpn_tables.specs.Changes.{with_publication}
 use Rattle.vpn_tables.specs.Moved.{targets_by_publication}
 use Rattle.vpn_tables.specs.Touched.{touched, touched_rows}
-use Rattle.control_touched_laws.proofs.Counted.{counted}
-use Rattle.control_touched_laws.proofs.Known.{known_in}
-use Rattle.control_touched_laws.proofs.Wanted.{at_row}
-use Rattle.control_touched_laws.proofs.Touching.{publication_rows, subscription_rows}
+use Rattle.control_change_laws.proofs.Counted.{counted}
+use Rattle.control_change_laws.proofs.Known.{known_in}
+use Rattle.control_change_laws.proofs.Wanted.{at_row}
+use Rattle.control_change_laws.proofs.Touching.{publication_rows, subscription_rows}
 use Rattle.vpn_tables.specs.Touched.{rows_by_key}
 use Rattle.vpn_stored_rows.specs.Stored.{AreRows, key_in, keys_of, row_of, row_order}
 use Rattle.vpn_stored_rows.specs.declared.rows.RowKey.{RowKey}

@@ -10,7 +10,7 @@ use Rattle.node_model.specs.Reaching.{below, reoriginated_paths}
 use Rattle.node_model.specs.Uses.{Use, uses}
 use Rattle.node_model.proofs.Routes.{from_below}
 use Rattle.vpn_tables.specs.Gathered.{UsesAreInRange}
-use Rattle.control_touched_laws.proofs.Filtering.{flat_map_same}
+use Rattle.control_change_laws.proofs.Filtering.{flat_map_same}
 use Rattle.vpn_stored_rows.specs.Led.{routes_at}
 use Rattle.vpn_stored_rows.specs.Reached.{AreReached, Reached, is_number, is_row_of, reached_at, reached_of, stored_at}
 use Rattle.vpn_stored_rows.specs.declared.uses.StoredUse.{StoredUse}

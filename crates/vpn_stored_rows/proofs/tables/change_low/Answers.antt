@@ -2,7 +2,7 @@ use Rattle.std.proofs.Common.{refl, ap, sym, ◌∙◌}
 use Rattle.std.specs.Option.{option_map}
 use Rattle.std.specs.FinMap.{get}
 use Rattle.path_select.specs.Selection.{plain}
-use Rattle.control_touched_laws.proofs.Objects.{tables_stay}
+use Rattle.control_change_laws.proofs.Objects.{tables_stay}
 use Rattle.vpn_stored_rows.specs.Stored.{row_of}
 use Rattle.vpn_stored_rows.proofs.LedObjects.{low_stays}
 use Rattle.vpn_stored_rows.proofs.UsePlaces.{reached_alike}

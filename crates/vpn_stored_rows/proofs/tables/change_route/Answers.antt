@@ -1,10 +1,10 @@
 use Rattle.std.proofs.Common.{ap, sym, ◌∙◌}
 use Rattle.std.specs.List.{list_any}
 use Rattle.std.specs.Ordering.{eq_by_cmp}
-use Rattle.control_touched_laws.proofs.Counted.{counted}
+use Rattle.control_change_laws.proofs.Counted.{counted}
 use Rattle.vpn_tables.specs.Moved.{targets_by_route}
 use Rattle.vpn_tables.specs.Touched.{touched, touched_rows}
-use Rattle.control_touched_laws.proofs.Touching.{route_rows}
+use Rattle.control_change_laws.proofs.Touching.{route_rows}
 use Rattle.ov_sync.specs.Keyed.{key_of}
 use Rattle.vpn_tables.specs.Changes.{with_route}
 use Rattle.vpn_stored_rows.specs.Stored.{row_of, row_order}
