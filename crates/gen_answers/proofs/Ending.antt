@@ -17,6 +17,7 @@ use Rattle.net_machine.specs.RunningModel.Stands.{StandsFor}
 use Rattle.net_machine.specs.ScheduleLaws.Runs.{tied_moment}
 use Rattle.net_machine.proofs.ScheduleLaws.Placed.{as_compiled, isolated}
 use Rattle.run_ties.specs.Kept.{AreAlike, ties_in}
+use Rattle.net_machine.proofs.MachinePermissionLaws.Placed.{permitted}
 use Rattle.net_machine.proofs.MachineRevocationLaws.Placed.{revoked}
 use Rattle.scenario_gen.specs.Scenario.{scenario}
 use Rattle.gen_answers.specs.declared.tally.Tally.{Tally}
@@ -61,6 +62,7 @@ gen_promised n old new t valid forms is taken = record {
   taken = subst (λ t. Appends old new (summary_of n t)) is taken;
   compiled = as_compiled (opening n) (scenario_is_written n valid) (schedule n) forms;
   isolated = isolated (opening n) (scenario_is_written n valid) (schedule n) forms;
+  permitted = permitted (opening n) (scenario_is_written n valid) (schedule n) forms;
   revoked = revoked (opening n) (scenario_is_written n valid) (schedule n) forms;
   agree = packets_agree n valid;
 }

@@ -11,6 +11,7 @@ use Rattle.net_machine.specs.Taken.{HasTaken}
 use Rattle.net_machine.specs.ScheduleLaws.TiedCompiled.{AreAsCompiled}
 use Rattle.net_machine.specs.ScheduleLaws.Isolated.{IsIsolated}
 use Rattle.net_machine.specs.ScheduleLaws.Runs.{answers}
+use Rattle.net_machine.specs.MachinePermissionLaws.Schedules.{IsPermittedThroughout}
 use Rattle.net_machine.specs.MachineRevocationLaws.Schedules.{IsRevoked}
 use Rattle.gen_answers.specs.Agreed.{PacketsAgree}
 use Rattle.gen_answers.specs.Scheduled.{opening, schedule}
@@ -26,11 +27,13 @@ pub record IsLeftOfScenario (n : ℕ) (left : Option NetState) : Type 0 where
   pub is_left : left ≡ Some net
   pub took : HasTaken (opening n) (schedule n) net
 
--- what was taken is the summary of a scenario, whose answers are as compiled and isolated, and two rounds after an edit let
--- nothing through that its policies refuse: each of its packets has the outcome that policies give
+-- what was taken is the summary of a scenario, whose answers are as compiled and isolated, let packets pass only as
+-- configurations so far permitted, and two rounds after an edit let nothing through that its policies refuse: each of its
+-- packets has the outcome that policies give
 pub record TookSummary (n : ℕ) (old new : Option (List ℕ)) : Type 0 where
   pub taken : Appends old new (summary_text n)
   pub compiled : AreAsCompiled (opening n) (schedule n) (answers (opening n) (schedule n))
   pub isolated : IsIsolated (opening n) (schedule n) (answers (opening n) (schedule n))
+  pub permitted : IsPermittedThroughout (opening n) (schedule n) (answers (opening n) (schedule n))
   pub revoked : IsRevoked (opening n) (schedule n) (answers (opening n) (schedule n))
   pub agree : PacketsAgree n

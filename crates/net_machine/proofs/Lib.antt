@@ -38,3 +38,4 @@ pub mod RunningModel
 pub mod MachineLaws
 pub mod Taking
 pub mod MachineRevocationLaws
+pub mod MachinePermissionLaws

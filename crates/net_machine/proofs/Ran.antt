@@ -34,6 +34,8 @@ use Rattle.machine_revocation_laws.specs.ScheduleLaws.TiedCompiled.{EndsAtOnce, 
 use Rattle.machine_revocation_laws.specs.ScheduleLaws.Isolated.{DeliversSoFar, DeliversTied}
 use Rattle.machine_revocation_laws.specs.Schedules.{RevokedSoFar}
 use Rattle.machine_revocation_laws.proofs.Placed.{revoked_here}
+use Rattle.machine_permission_laws.specs.Schedules.{PermittedSoFar}
+use Rattle.machine_permission_laws.proofs.Placed.{permitted_here}
 use Rattle.machine_revocation_laws.specs.ScheduleLaws.Runs.{answer_tied, tied_moment}
 use Rattle.machine_revocation_laws.proofs.ScheduleLaws.Kept.{asked_with_ties, tied_more}
 use Rattle.machine_revocation_laws.proofs.ScheduleLaws.Moments.{compiled_here, ends_here, isolated_here, joined_here}
@@ -192,6 +194,9 @@ module _ (x : Checked) (es : List Event) (ties : Kept) (seats : List Seat) (orde
 
     pub step_revoked : RevokedSoFar x es e answer
     step_revoked = subst (RevokedSoFar x es e) (sym step_answers) (revoked_here x r.written es r.forms e)
+
+    pub step_permitted : PermittedSoFar x es e answer
+    step_permitted = subst (PermittedSoFar x es e) (sym step_answers) (permitted_here x r.written es r.forms e)
 
     pub step_joined : DeliversTied (ties_in ties) e answer
     step_joined =

@@ -21,3 +21,4 @@ pub mod RunningLaws
 pub mod RunningModel
 pub mod MachineLaws
 pub mod MachineRevocationLaws
+pub mod MachinePermissionLaws

@@ -16,6 +16,7 @@ ghost use Rattle.schedule_tied_answers.specs.Answers.{OfAnswer};
 ghost use Rattle.machine_revocation_laws.specs.ScheduleLaws.TiedCompiled.{EndsAtOnce, IsAsCompiled};
 ghost use Rattle.machine_revocation_laws.specs.ScheduleLaws.Isolated.{DeliversSoFar, DeliversTied};
 ghost use Rattle.machine_revocation_laws.specs.Schedules.{RevokedSoFar};
+ghost use Rattle.machine_permission_laws.specs.Schedules.{PermittedSoFar};
 ghost use Rattle.machine_revocation_laws.specs.ScheduleLaws.Runs.{answer_tied, tied_moment};
 ghost use Rattle.net_machine.specs.Shown.{ShowsCompiled};
 ghost use Rattle.net_machine.specs.Tying.{OfTie};
@@ -135,6 +136,9 @@ impl Net {
         // Isolation, settled or not.
         ensures every_moment { IfOk result (DeliversSoFar self.old.opening self.old.events event) }
         ensures joined { IfOk result (DeliversTied (ties_in self.old.ties) event) }
+
+        // What configurations so far permitted, settled or not.
+        ensures permitted { IfOk result (PermittedSoFar self.old.opening self.old.events event) }
 
         // What an edit took away, two rounds later.
         ensures revoked { IfOk result (RevokedSoFar self.old.opening self.old.events event) }

@@ -17,6 +17,7 @@ use Rattle.net_machine.specs.NetState.{NetState}
 use Rattle.net_machine.specs.Taken.{HasTaken}
 use Rattle.net_machine.proofs.ScheduleLaws.Placed.{as_compiled, isolated}
 use Rattle.machine_model.specs.Setup.{opening as opening_setup}
+use Rattle.net_machine.proofs.MachinePermissionLaws.Placed.{permitted}
 use Rattle.net_machine.proofs.MachineRevocationLaws.Placed.{revoked}
 use Rattle.run_answers.specs.Networks.{AreReadAs, IsLeftOf, TookAnswers, input_of}
 use Rattle.run_answers.specs.Schedules.{run_text}
@@ -43,6 +44,7 @@ run_promised octets old new x es took read valid forms same taken = record {
   taken = subst (λ es. Appends old new (run_text x es)) same taken;
   compiled = as_compiled x valid es forms;
   isolated = isolated x valid es forms;
+  permitted = permitted x valid es forms;
   revoked = revoked x valid es forms;
 }
 

@@ -15,6 +15,7 @@ use Rattle.ov_json.specs.Json.{json_of}
 use Rattle.net_machine.specs.ScheduleLaws.TiedCompiled.{AreAsCompiled}
 use Rattle.net_machine.specs.ScheduleLaws.Isolated.{IsIsolated}
 use Rattle.net_machine.specs.ScheduleLaws.Runs.{answers}
+use Rattle.net_machine.specs.MachinePermissionLaws.Schedules.{IsPermittedThroughout}
 use Rattle.net_machine.specs.MachineRevocationLaws.Schedules.{IsRevoked}
 use Rattle.run_answers.specs.Schedules.{run_text}
 
@@ -40,12 +41,14 @@ pub record IsLeftOf (octets : List ℕ) (left : Option NetState) : Type 0 where
   pub is_left : left ≡ Some net
   pub took : HasTaken (opening_of input) input.events net
 
--- what was taken is the lines of what the events answer. These answers are as compiled at settled moments, isolated at
--- every moment, and two rounds after an edit they let nothing through that its policies refuse
+-- what was taken is the lines of what the events answer. These answers are as compiled at settled moments; at every moment
+-- they are isolated, and packets pass only as configurations so far permitted; and two rounds after an edit they let nothing
+-- through that its policies refuse
 pub record TookAnswers (octets : List ℕ) (old new : Option (List ℕ)) : Type 0 where
   pub input : RunInput
   pub read : AreReadAs octets input
   pub taken : Appends old new (run_text (opening_of input) input.events)
   pub compiled : AreAsCompiled (opening_of input) input.events (answers (opening_of input) input.events)
   pub isolated : IsIsolated (opening_of input) input.events (answers (opening_of input) input.events)
+  pub permitted : IsPermittedThroughout (opening_of input) input.events (answers (opening_of input) input.events)
   pub revoked : IsRevoked (opening_of input) input.events (answers (opening_of input) input.events)
