@@ -1,8 +1,7 @@
 #!/usr/bin/env python3
-"""Draws documents, and compares the drawings of docs/ with what the sources give.
+"""Draws documents, and compares the drawing of docs/ with what the sources give.
 
-docs/layers.svg is to be what tools/layers.py draws of crates.txt, and docs/chain.svg what tools/picture.py draws of
-examples/reach.json with what `reach` prints of it. Then each document of `run` and `scale` that the tests have, and
+docs/chain.svg is to be what tools/picture.py draws of examples/reach.json with what `reach` prints of it. Then each document of `run` and `scale` that the tests have, and
 each example that has a topology, is drawn, with its answers where they are there: the drawing is to be XML, no two
 boxes overlap, all words lie in the drawing and none goes over the edge of a box, and there is a line for each
 session, each attached policy and each chain rule, and the way of each packet that was answered; the uses of chains
@@ -24,7 +23,6 @@ HERE = os.path.dirname(os.path.abspath(__file__))
 TOP = os.path.dirname(HERE)
 sys.dont_write_bytecode = True
 sys.path.insert(0, os.path.join(TOP, "tools"))
-import layers
 import picture
 
 SVG = "{http://www.w3.org/2000/svg}"
@@ -125,17 +123,15 @@ def documents():
 
 def main(program):
     wrong = 0
-    drawn = layers.layers(layers.crates_of(text_of("crates.txt")), TOP)
     example = text_of("examples", "reach.json")
     run = subprocess.run([program, "reach"], input=example.encode(), capture_output=True, check=True)
     chain = picture.picture(json.loads(example), run.stdout.decode().splitlines())
-    for name, made in (("layers.svg", drawn), ("chain.svg", chain)):
-        if made != text_of("docs", name):
-            wrong += 1
-            print(f"docs/{name} is not what the sources give")
-        for fault in faults_of(made):
-            wrong += 1
-            print(f"docs/{name}: {fault}")
+    if chain != text_of("docs", "chain.svg"):
+        wrong += 1
+        print("docs/chain.svg is not what the sources give")
+    for fault in faults_of(chain):
+        wrong += 1
+        print(f"docs/chain.svg: {fault}")
     count = 0
     for name, document, answers in documents():
         count += 1

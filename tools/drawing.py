@@ -1,4 +1,4 @@
-"""Drawings of boxes, lines and words as SVG, for picture.py and layers.py. Needs Python 3.8."""
+"""Drawings of boxes, lines and words as SVG, for picture.py. Needs Python 3.8."""
 from xml.sax.saxutils import escape, quoteattr
 
 # of each paint what it is in light and in dark; the first is written at each shape, the second in the style
