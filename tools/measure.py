@@ -15,12 +15,30 @@ import re
 import sys
 
 sys.dont_write_bytecode = True
-from layers import crates_of, levels_of
 
 TOP = os.path.dirname(os.path.dirname(os.path.abspath(__file__)))
 HEAD = re.compile(r"((?:pub(?:\([^)]*\))? )?)(?:const )?(?:unsafe )?fn (\w+)")
 WORD = re.compile(r"[A-Za-z_]\w*")
 OPENS, CLOSES = "([{", ")]}"
+
+
+def crates_of(text):
+    """By crate the crates of the repository that it stands on."""
+    lines = [line.partition("#")[0].partition(":") for line in text.splitlines()]
+    found = {name.split()[0]: below.split() for name, colon, below in lines if colon}
+    return {name: [it for it in below if it in found] for name, below in found.items()}
+
+
+def levels_of(crates):
+    """By crate the number of crates of the longest chain that ends in it."""
+    levels = {}
+
+    def level(name):
+        if name not in levels:
+            levels[name] = 1 + max((level(it) for it in crates[name]), default=0)
+        return levels[name]
+
+    return {name: level(name) for name in crates}
 
 
 def files_of(crate, folder, end):
