@@ -1,0 +1,26 @@
+-- Lemmas, in the order in which they stand on each other.
+pub mod Seats
+pub mod OfSome
+pub mod Beginning
+pub mod AccessLists
+pub mod Stays
+pub mod Course
+pub mod Parts
+pub mod Above
+pub mod Here
+pub mod Stood
+pub mod Static
+pub mod Homes
+pub mod Sides
+pub mod HopRows
+pub mod Says
+pub mod InUse
+pub mod Paths
+pub mod Chains
+pub mod Keys
+pub mod Lasting
+pub mod Moments
+pub mod Rows
+pub mod Routes
+pub mod Alone
+pub mod Arriving
