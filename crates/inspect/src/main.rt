@@ -30,6 +30,7 @@ const VERSION: &str = "inspect 0.1.0\n";
 const USAGE: &str = "usage: inspect COMMAND, where a FILE of - is standard input:
   ways FILE            what is let through from each network to each other, by which rule and through which services
   ways FILE FROM TO    the same from one network to one other
+  expect FILE          which packets have another outcome than the document expects
   --help               this text; so does -h
   --version            the version
 ";
@@ -37,6 +38,7 @@ const USAGE: &str = "usage: inspect COMMAND, where a FILE of - is standard input
 const STATUSES: &str =
     "exit status; from 3 on standard error has a sentence for people, at 2 the usage:
   0  done: all was read, and all is written
+  1  so too, and something differs: an outcome is otherwise than is expected
   2  the words are no command
   3  the file could not be opened or read
   4  the input has more than 16,777,216 octets
@@ -45,7 +47,8 @@ const STATUSES: &str =
   7  the configuration breaks a rule, or has no network of a name that is asked for; the line is `refused` and which
   8  standard output could not be written
   9  there was no memory
-A document is what `overlay compile` takes; docs/FORMATS.md has its form, and that of the lines.
+A document is what `overlay compile` takes, and for `expect` what `overlay reach` takes with `expect` in each packet;
+docs/FORMATS.md has their form, and that of the lines.
 ";
 
 /// What is asked of `main` itself, before the top call.
@@ -125,10 +128,11 @@ fn explanation<'a>(
     front: &'a [u8],
     heard: &KeptInput,
 ) -> Option<Explanation<'a>>
-    ensures { (result ≡ None) ↔ ((status ≡ Status.Done) ⊎ (status ≡ Status.Usage) ⊎ (status ≡ Status.ReadFault)) }
+    ensures { (result ≡ None)
+        ↔ ((status ≡ Status.Done) ⊎ (status ≡ Status.Differs) ⊎ (status ≡ Status.Usage) ⊎ (status ≡ Status.ReadFault)) }
 {
     match status {
-        Status::Done | Status::Usage | Status::ReadFault => None,
+        Status::Done | Status::Differs | Status::Usage | Status::ReadFault => None,
         Status::TooLong => Some(Explanation::Advice(Advice::TooLong)),
         Status::NotJson => Some(explain_stop(alloc, heard)),
         Status::BadDocument => Some(explain_form(front)),

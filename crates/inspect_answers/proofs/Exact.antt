@@ -65,13 +65,13 @@ on_one_at_most c a b t h =
 
 -- one way
 
-sole : {A : Type 0} (x y : A) → Contains (x ∷ []) y → x ≡ y
+pub sole : {A : Type 0} (x y : A) → Contains (x ∷ []) y → x ≡ y
 sole x y at = at_first at.0 at.1 at.2 where
   at_first : (k : ℕ) → k < length (x ∷ []) → get_or (x ∷ []) k y ≡ y → x ≡ y
   at_first zero lt is = is
   at_first (suc k) lt is = absurd (omega arith)
 
-nothing : {A B : Type 0} (x : A) → Contains [] x → B
+pub nothing : {A B : Type 0} (x : A) → Contains [] x → B
 nothing x at = absurd (let lt = at.1 in omega arith)
 
 region_of : (c : Config) (r : Region) (d : Option Decision) (e : Effect) (w : Way) → Contains (ways_by c r d e) w → w.region ≡ r
@@ -133,7 +133,7 @@ let_through c a b t d passage h on =
 
 -- from the rule to a way
 
-some_held : {A : Type 0} (p : A → Bool) (xs : List A) → count_by p xs ≡ 1 → (x : A) × Contains xs x × (p x ≡ true)
+pub some_held : {A : Type 0} (p : A → Bool) (xs : List A) → count_by p xs ≡ 1 → (x : A) × Contains xs x × (p x ≡ true)
 some_held p [] h = absurd (omega arith)
 some_held {A} p (x ∷ xs) h =
     elim (p x) as (λ b. p x ≡ b → cond b 1 0 + count_by p xs ≡ 1 → (y : A) × Contains (x ∷ xs) y × (p y ≡ true)) [

@@ -1,3 +1,14 @@
 mod Unfitting
 mod Exact
+mod Differing
+mod Delivered
+mod Gone
+mod Throughout
+mod SomeLine
 mod Told
+mod ExpectRead
+mod Counting
+mod Meeting
+mod Otherwise
+mod Taken
+mod Keeping

@@ -16,17 +16,20 @@ use Rattle.config_model.specs.Input.{compile_at}
 use Rattle.config_model.specs.declared.input.CompileInput.{CompileInput}
 use Rattle.config_check.specs.Rules.{first_broken}
 use Rattle.config_check.specs.declared.refusal.Refusal.{Refusal}
-use Rattle.compile_answers.specs.Answers.{DocumentAnswer, answer_checked, answer_good, of_json}
-use Rattle.compile_answers.specs.declared.unfit.Reception.TheVariants.{Good}
+use Rattle.compile_answers.specs.Answers.{answer_checked, answer_good}
 use Rattle.policy_rules.specs.declared.matching.Decision.{Decision}
 use Rattle.policy_rules.proofs.Lists.{joined_is, is_joined, is_mapped, mapped_is}
 use Rattle.policy_regions.specs.Parts.{IsTuple}
-use Rattle.inspect_answers.specs.Answers.{answer_unless, missing_of, ways_answer, ways_reading, ways_value}
+use Rattle.inspect_answers.specs.Answers.{Answer, IsAnswer, WasGiven, answer_unless, judged, missing_of, of_json, ways_answer, ways_reading, ways_value}
 use Rattle.inspect_answers.specs.Lines.{is_asked, network_text, pair_text, way_line, ways_text}
 use Rattle.inspect_answers.specs.Promise.{IsAskedFor, IsLetBetween, IsWrittenIn, Line, Tells, TookWays, line_text, lines_of, network_lines, pair_lines}
+use Rattle.inspect_answers.specs.Runs.{status_of}
 use Rattle.inspect_answers.specs.Ways.{IsLetThrough, ways_between}
-use Rattle.inspect_answers.specs.declared.asked.Asked.{Asked}
-use Rattle.inspect_answers.specs.declared.asked.Asked.TheVariants.{All, Between}
+use Rattle.inspect_answers.specs.declared.asked.Pairs.{Pairs}
+use Rattle.inspect_answers.specs.declared.asked.Pairs.TheVariants.{All, Between}
+use Rattle.inspect_answers.specs.declared.top.Status.TheVariants as Ended
+use Rattle.inspect_answers.specs.declared.verdict.Verdict.{Verdict}
+use Rattle.inspect_answers.specs.declared.verdict.Verdict.TheVariants.{Good}
 use Rattle.inspect_answers.specs.declared.way.Passage.{Passage}
 use Rattle.inspect_answers.specs.declared.way.Way.{Way}
 use Rattle.inspect_answers.proofs.Exact.{let_through, on_one, on_one_at_most}
@@ -39,19 +42,19 @@ joined_texts f g h each [] = refl
 joined_texts f g h each (x ∷ xs) =
     (λ i. each x i ++ joined_texts f g h each xs i) ∙ sym (flat_map-append f (g x) (flat_map g xs))
 
-text_of_pair : (asked : Asked) (c : Config) (a b : Network) → pair_text asked c a b ≡ flat_map line_text (pair_lines asked c a b)
-text_of_pair asked c a b =
-    elim (is_asked asked a b) as (λ q. cond q (flat_map (way_line a.name b.name) (ways_between c a b)) []
+text_of_pair : (pairs : Pairs) (c : Config) (a b : Network) → pair_text pairs c a b ≡ flat_map line_text (pair_lines pairs c a b)
+text_of_pair pairs c a b =
+    elim (is_asked pairs a b) as (λ q. cond q (flat_map (way_line a.name b.name) (ways_between c a b)) []
     ≡ flat_map line_text (cond q (map (λ (w : Way). record { from = a; to = b; way = w }) (ways_between c a b)) [])) [
       | true ↦ sym (flat_map-map line_text (λ (w : Way). record { from = a; to = b; way = w }) (ways_between c a b))
       | false ↦ refl
     ]
 
-pub text_of_lines : (asked : Asked) (c : Config) → ways_text asked c ≡ flat_map line_text (lines_of asked c)
+pub text_of_lines : (pairs : Pairs) (c : Config) → ways_text pairs c ≡ flat_map line_text (lines_of pairs c)
 unfolding ways_text
-text_of_lines asked c =
-    joined_texts line_text (network_lines asked c) (network_text asked c)
-    (λ a. joined_texts line_text (pair_lines asked c a) (pair_text asked c a) (text_of_pair asked c a) c.networks) c.networks
+text_of_lines pairs c =
+    joined_texts line_text (network_lines pairs c) (network_text pairs c)
+    (λ a. joined_texts line_text (pair_lines pairs c a) (pair_text pairs c a) (text_of_pair pairs c a) c.networks) c.networks
 
 -- what is asked for
 
@@ -68,13 +71,13 @@ both true true h = (refl, refl)
 both true false h = cc
 both false q h = cc
 
-asked_is : (asked : Asked) (a b : Network) → is_asked asked a b ≡ true → IsAskedFor asked a b
+asked_is : (pairs : Pairs) (a b : Network) → is_asked pairs a b ≡ true → IsAskedFor pairs a b
 asked_is All a b h = same_is a.name b.name (same_name a.name b.name) refl h
 asked_is (Between from to) a b h =
     let parts = both (same_name a.name from) (same_name b.name to) h in
     ((same_name_iff a.name from).0 parts.0, (same_name_iff b.name to).0 parts.1)
 
-is_asked_for : (asked : Asked) (a b : Network) → IsAskedFor asked a b → is_asked asked a b ≡ true
+is_asked_for : (pairs : Pairs) (a b : Network) → IsAskedFor pairs a b → is_asked pairs a b ≡ true
 is_asked_for All a b h = other_is a.name b.name (same_name a.name b.name) refl h
 is_asked_for (Between from to) a b h =
     let first : same_name a.name from ≡ true = (same_name_iff a.name from).1 h.0 in
@@ -92,12 +95,12 @@ pub record IsOfPair (c : Config) (a b : Network) (line : Line) : Type 0 where
   pub to : line.to ≡ b
   pub way : Contains (ways_between c a b) line.way
 
-pair_is : (asked : Asked) (c : Config) (a b : Network) (line : Line) → Contains (pair_lines asked c a b) line
-    → (is_asked asked a b ≡ true) × IsOfPair c a b line
-pair_is asked c a b line =
-    elim (is_asked asked a b) as (λ q. is_asked asked a b ≡ q
+pair_is : (pairs : Pairs) (c : Config) (a b : Network) (line : Line) → Contains (pair_lines pairs c a b) line
+    → (is_asked pairs a b ≡ true) × IsOfPair c a b line
+pair_is pairs c a b line =
+    elim (is_asked pairs a b) as (λ q. is_asked pairs a b ≡ q
     → Contains (cond q (map (λ (w : Way). record { from = a; to = b; way = w }) (ways_between c a b)) []) line
-    → (is_asked asked a b ≡ true) × IsOfPair c a b line) [
+    → (is_asked pairs a b ≡ true) × IsOfPair c a b line) [
       | true ↦ λ e at.
           let found = mapped_is (λ (w : Way). record { from = a; to = b; way = w }) (ways_between c a b) line at in (
             e,
@@ -110,33 +113,33 @@ pair_is asked c a b line =
       | false ↦ λ e at. absurd (let lt = at.1 in omega arith)
     ] refl
 
-pub told : (asked : Asked) (c : Config) (a b : Network) (t : Tuple) (d : Decision) (passage : Passage) → IsTuple t
-    → Tells (lines_of asked c) a b t d passage → IsLetBetween asked c a b t d passage
-told asked c a b t d passage h tells =
-    let first = joined_is (network_lines asked c) c.networks tells.line tells.stands in
-    let second = joined_is (pair_lines asked c first.0) c.networks tells.line first.2 in
-    let pair = pair_is asked c first.0 second.0 tells.line second.2 in
+pub told : (pairs : Pairs) (c : Config) (a b : Network) (t : Tuple) (d : Decision) (passage : Passage) → IsTuple t
+    → Tells (lines_of pairs c) a b t d passage → IsLetBetween pairs c a b t d passage
+told pairs c a b t d passage h tells =
+    let first = joined_is (network_lines pairs c) c.networks tells.line tells.stands in
+    let second = joined_is (pair_lines pairs c first.0) c.networks tells.line first.2 in
+    let pair = pair_is pairs c first.0 second.0 tells.line second.2 in
     let lets : IsLetThrough c first.0 second.0 t d passage =
     let_through c first.0 second.0 t d passage h
     (record { way = tells.line.way; stands = pair.1.way; on = tells.on; decided = tells.decided; goes = tells.goes }) in
-    let between : IsLetBetween asked c first.0 second.0 t d passage =
-    record { from_stands = first.1; to_stands = second.1; asked_for = asked_is asked first.0 second.0 pair.0; let_through = lets } in
-    subst (λ (a : Network). IsLetBetween asked c a b t d passage) (sym pair.1.from ∙ tells.from)
-    (subst (λ (b : Network). IsLetBetween asked c first.0 b t d passage) (sym pair.1.to ∙ tells.to) between)
+    let between : IsLetBetween pairs c first.0 second.0 t d passage =
+    record { from_stands = first.1; to_stands = second.1; asked_for = asked_is pairs first.0 second.0 pair.0; let_through = lets } in
+    subst (λ (a : Network). IsLetBetween pairs c a b t d passage) (sym pair.1.from ∙ tells.from)
+    (subst (λ (b : Network). IsLetBetween pairs c first.0 b t d passage) (sym pair.1.to ∙ tells.to) between)
 
-pub is_told : (asked : Asked) (c : Config) (a b : Network) (t : Tuple) (d : Decision) (passage : Passage) → IsTuple t
-    → IsLetBetween asked c a b t d passage → Tells (lines_of asked c) a b t d passage
-is_told asked c a b t d passage h between =
+pub is_told : (pairs : Pairs) (c : Config) (a b : Network) (t : Tuple) (d : Decision) (passage : Passage) → IsTuple t
+    → IsLetBetween pairs c a b t d passage → Tells (lines_of pairs c) a b t d passage
+is_told pairs c a b t d passage h between =
     let found = on_one c a b t d passage h between.let_through in
     let line : Line = record { from = a; to = b; way = found.way } in
     let mapped = is_mapped (λ (w : Way). record { from = a; to = b; way = w }) (ways_between c a b) found.way found.stands in
-    let here : Contains (pair_lines asked c a b) line =
+    let here : Contains (pair_lines pairs c a b) line =
     subst (λ (q : Bool). Contains (cond q (map (λ (w : Way). record { from = a; to = b; way = w }) (ways_between c a b)) []) line)
-    (sym (is_asked_for asked a b between.asked_for)) mapped in
-    let there = is_joined (pair_lines asked c a) c.networks b line between.to_stands here in
+    (sym (is_asked_for pairs a b between.asked_for)) mapped in
+    let there = is_joined (pair_lines pairs c a) c.networks b line between.to_stands here in
     record {
       line = line;
-      stands = is_joined (network_lines asked c) c.networks a line between.from_stands there;
+      stands = is_joined (network_lines pairs c) c.networks a line between.from_stands there;
       from = refl;
       to = refl;
       on = found.on;
@@ -146,48 +149,51 @@ is_told asked c a b t d passage h between =
 
 -- the input
 
-by_answer : (broken missing : Option Refusal) (text : List ℕ) → (answer_unless broken (answer_checked missing text)).verdict ≡ Good
-    → (broken ≡ None) × ((answer_unless broken (answer_checked missing text)).text ≡ text)
-by_answer (Some r) missing text h = absurd (cc h)
-by_answer None (Some r) text h = absurd (cc h)
-by_answer None None text h = (refl, refl)
-
 -- a valid configuration was read, and its ways are the text
-pub record IsGood (asked : Asked) (octets text : List ℕ) : Type 0 where
+pub record IsGood (pairs : Pairs) (octets : List ℕ) : Type 0 where
   pub input : CompileInput
   pub written : IsWrittenIn octets input
   pub valid : first_broken input.topology input.config ≡ None
-  pub is : text ≡ ways_text asked input.config
+  pub is : ways_answer pairs octets ≡ judged (answer_good (ways_text pairs input.config))
 
-by_reading : (asked : Asked) (octets : List ℕ) (d : Data) → json_of octets ≡ Some d → (r : Result CompileInput Fault) → compile_at [] d ≡ r
-    → (ways_reading asked r).verdict ≡ Good → IsGood asked octets (ways_reading asked r).text
-by_reading asked octets d e (Err f) read h = absurd (cc h)
-by_reading asked octets d e (Ok p) read h =
-    let parts = by_answer (first_broken p.topology p.config) (missing_of asked p.config) (ways_text asked p.config) h in
-    record { input = p; written = (d, e, read); valid = parts.0; is = parts.1 }
+by_answer : (broken missing : Option Refusal) (text : List ℕ) → IsAnswer (answer_unless broken (judged (answer_checked missing text))).verdict
+    → (broken ≡ None) × (answer_unless broken (judged (answer_checked missing text)) ≡ judged (answer_good text))
+by_answer (Some r) missing text h = absurd h
+by_answer None (Some r) text h = absurd h
+by_answer None None text h = (refl, refl)
 
-by_json : (asked : Asked) (octets : List ℕ) (o : Option Data) → json_of octets ≡ o → (of_json (ways_value asked) o).verdict ≡ Good
-    → IsGood asked octets (of_json (ways_value asked) o).text
+by_reading : (pairs : Pairs) (octets : List ℕ) (d : Data) → json_of octets ≡ Some d → (r : Result CompileInput Fault) → compile_at [] d ≡ r
+    → ways_answer pairs octets ≡ ways_reading pairs r → IsAnswer (ways_reading pairs r).verdict → IsGood pairs octets
+by_reading pairs octets d e (Err f) read is h = absurd h
+by_reading pairs octets d e (Ok p) read is h =
+    let parts = by_answer (first_broken p.topology p.config) (missing_of pairs p.config) (ways_text pairs p.config) h in
+    record { input = p; written = (d, e, read); valid = parts.0; is = is ∙ parts.1 }
+
+by_json : (pairs : Pairs) (octets : List ℕ) (o : Option Data) → json_of octets ≡ o → ways_answer pairs octets ≡ of_json (ways_value pairs) o
+    → IsAnswer (of_json (ways_value pairs) o).verdict → IsGood pairs octets
 unfolding ways_value
-by_json asked octets None e h = absurd (cc h)
-by_json asked octets (Some d) e h = by_reading asked octets d e (compile_at [] d) refl h
+by_json pairs octets None e is h = absurd h
+by_json pairs octets (Some d) e is h = by_reading pairs octets d e (compile_at [] d) refl is h
 
-is_good : (asked : Asked) (octets : List ℕ) → (ways_answer asked octets).verdict ≡ Good → IsGood asked octets (ways_answer asked octets).text
+is_good : (pairs : Pairs) (octets : List ℕ) → IsAnswer (ways_answer pairs octets).verdict → IsGood pairs octets
 unfolding ways_answer
-is_good asked octets h = by_json asked octets (json_of octets) refl h
+is_good pairs octets h = by_json pairs octets (json_of octets) refl refl h
 
-pub took_ways : (asked : Asked) (octets : List ℕ) (old new : Option (List ℕ)) (text : List ℕ) → ways_answer asked octets ≡ answer_good text
-    → Appends old new text → TookWays asked octets old new
-took_ways asked octets old new text e taken =
-    let good = is_good asked octets (ap (λ (a : DocumentAnswer). a.verdict) e) in
-    let same : text ≡ flat_map line_text (lines_of asked good.input.config) =
-    sym (ap (λ (a : DocumentAnswer). a.text) e) ∙ good.is ∙ text_of_lines asked good.input.config in
-    record {
-      input = good.input;
-      written = good.written;
-      valid = good.valid;
-      lines = lines_of asked good.input.config;
-      taken = subst (λ (t : List ℕ). Appends old new t) same taken;
-      exact = λ a b t d passage h. (told asked good.input.config a b t d passage h, is_told asked good.input.config a b t d passage h);
-      apart = on_one_at_most good.input.config;
-    }
+pub took_ways : (pairs : Pairs) (octets : List ℕ) (verdict : Verdict) (old new : Option (List ℕ)) → WasGiven (ways_answer pairs octets) verdict old new
+    → IsAnswer verdict → (status_of verdict ≡ Ended.Done) × TookWays pairs octets old new
+took_ways pairs octets verdict old new given answers =
+    let good = is_good pairs octets (subst IsAnswer given.is answers) in
+    let same : (ways_answer pairs octets).text ≡ flat_map line_text (lines_of pairs good.input.config) =
+    ap (λ (a : Answer). a.text) good.is ∙ text_of_lines pairs good.input.config in
+    let verdict_is : verdict ≡ Good = given.is ∙ ap (λ (a : Answer). a.verdict) good.is in (
+      ap status_of verdict_is,
+      record {
+        input = good.input;
+        written = good.written;
+        valid = good.valid;
+        lines = lines_of pairs good.input.config;
+        taken = subst (λ (t : List ℕ). Appends old new t) same given.taken;
+        exact = λ a b t d passage h. (told pairs good.input.config a b t d passage h, is_told pairs good.input.config a b t d passage h);
+        apart = on_one_at_most good.input.config;
+      },
+    )

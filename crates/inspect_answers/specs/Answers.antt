@@ -1,19 +1,74 @@
 -- What is answered to a document.
-use Rattle.std.specs.Prelude.{ℕ, List, [], Option, Some, None, is_none, Result, Ok, Err, if◌then◌else◌}
+use Rattle.std.specs.Prelude.{◌≡◌, ℕ, List, [], Option, Some, None, is_none, Result, Ok, Err, ⊤, if◌then◌else◌}
+use Rattle.std.specs.Io.KnownBytes.{Appends}
 use Rattle.serde_json.specs.Data.{Data}
 use Rattle.ov_json.specs.Json.{json_of}
 use Rattle.config_types.specs.declared.config.Config.{Config}
 use Rattle.config_model.specs.declared.input.CompileInput.{CompileInput}
-use Rattle.config_model.specs.Faults.{Fault}
+use Rattle.config_model.specs.Faults.{Fault, fault_of}
 use Rattle.config_model.specs.Input.{compile_at}
 use Rattle.config_check.specs.Finding.{network_named}
 use Rattle.config_check.specs.Rules.{first_broken}
 use Rattle.config_check.specs.declared.refusal.Refusal.{Refusal}
 use Rattle.config_check.specs.declared.refusal.Refusal.TheVariants.{BadReference}
-use Rattle.compile_answers.specs.Answers.{DocumentAnswer, answer_bad, answer_checked, answer_refused, of_json}
+use Rattle.compile_answers.specs.Answers.{DocumentAnswer, answer_bad, answer_checked, answer_not_json, answer_refused}
+use Rattle.compile_answers.specs.declared.unfit.Reception.{Reception}
+use Rattle.compile_answers.specs.declared.unfit.Reception.TheVariants as Received
+use Rattle.compile_answers.specs.declared.unfit.Unfit.{Unfit}
+use Rattle.compile_answers.specs.declared.unfit.Unfit.TheVariants as unfit
+use Rattle.inspect_answers.specs.Expectations.{ExpectInput, Expectation, expect_at}
+use Rattle.inspect_answers.specs.Expecting.{all_met, expect_text}
 use Rattle.inspect_answers.specs.Lines.{ways_text}
 use Rattle.inspect_answers.specs.declared.asked.Asked.{Asked}
-use Rattle.inspect_answers.specs.declared.asked.Asked.TheVariants.{All, Between}
+use Rattle.inspect_answers.specs.declared.asked.Asked.TheVariants as Asks
+use Rattle.inspect_answers.specs.declared.asked.Pairs.{Pairs}
+use Rattle.inspect_answers.specs.declared.asked.Pairs.TheVariants.{All, Between}
+use Rattle.inspect_answers.specs.declared.verdict.Verdict.{Verdict}
+use Rattle.inspect_answers.specs.declared.verdict.Verdict.TheVariants.{Good, Differs, NotJson, BadDocument, Refused}
+
+-- the verdict on an input, and the text that is written of it
+pub record Answer : Type 0 where
+  pub verdict : Verdict
+  pub text : List ℕ
+
+-- the verdict on what was received
+abbrev pub verdict_of : Reception → Verdict
+verdict_of Received.Good = Good
+verdict_of Received.NotJson = NotJson
+verdict_of Received.BadDocument = BadDocument
+verdict_of Received.Refused = Refused
+
+-- the same answer, with a verdict
+abbrev pub judged : DocumentAnswer → Answer
+judged a = record { verdict = verdict_of a.verdict; text = a.text }
+
+-- what is asked is answered
+abbrev pub IsAnswer : Verdict → Type 0
+IsAnswer Good = ⊤
+IsAnswer Differs = ⊤
+IsAnswer _ = ⊥
+
+-- what is not fit is answered with its one line, and nothing is said of want of memory
+abbrev pub IsUnfit : Unfit → Answer → Type 0
+IsUnfit unfit.NotJson answer = answer ≡ judged answer_not_json
+IsUnfit (unfit.BadDocument f) answer = answer ≡ judged (answer_bad (fault_of f))
+IsUnfit (unfit.Refused r) answer = answer ≡ judged (answer_refused r)
+IsUnfit unfit.NoMemory answer = ⊤
+
+-- the verdict of an answer was given, and its text taken whole
+pub record WasGiven (answer : Answer) (verdict : Verdict) (old new : Option (List ℕ)) : Type 0 where
+  pub is : verdict ≡ answer.verdict
+  pub taken : Appends old new answer.text
+
+-- the answer to a document by what is answered to its value
+abbrev pub of_json : (Data → Answer) → Option Data → Answer
+of_json answer None = judged answer_not_json
+of_json answer (Some d) = answer d
+
+-- a broken rule comes first
+abbrev pub answer_unless : Option Refusal → Answer → Answer
+answer_unless (Some r) answer = judged (answer_refused r)
+answer_unless None answer = answer
 
 -- a network of this name is not there
 abbrev pub missing : Config → List ℕ → Option Refusal
@@ -24,28 +79,48 @@ first_missing (Some r) other = Some r
 first_missing None other = other
 
 -- the first of the networks that are asked for which is not there, as what is refused
-abbrev pub missing_of : Asked → Config → Option Refusal
+abbrev pub missing_of : Pairs → Config → Option Refusal
 missing_of All c = None
 missing_of (Between from to) c = first_missing (missing c from) (missing c to)
 
--- a broken rule comes first
-abbrev pub answer_unless : Option Refusal → DocumentAnswer → DocumentAnswer
-answer_unless (Some r) answer = answer_refused r
-answer_unless None answer = answer
-
--- of a configuration that is valid
-abbrev pub valid_answer : Asked → Config → DocumentAnswer
-valid_answer asked c = answer_checked (missing_of asked c) (ways_text asked c)
+-- the ways of a configuration that is valid
+abbrev pub valid_answer : Pairs → Config → Answer
+valid_answer pairs c = judged (answer_checked (missing_of pairs c) (ways_text pairs c))
 
 -- of a topology and a configuration that were read, or not
-abbrev pub ways_reading : Asked → Result CompileInput Fault → DocumentAnswer
-ways_reading asked (Err f) = answer_bad f
-ways_reading asked (Ok p) = answer_unless (first_broken p.topology p.config) (valid_answer asked p.config)
+abbrev pub ways_reading : Pairs → Result CompileInput Fault → Answer
+ways_reading pairs (Err f) = judged (answer_bad f)
+ways_reading pairs (Ok p) = answer_unless (first_broken p.topology p.config) (valid_answer pairs p.config)
 
 -- of a value
-unfoldable pub ways_value : Asked → Data → DocumentAnswer
-ways_value asked d = ways_reading asked (compile_at [] d)
+unfoldable pub ways_value : Pairs → Data → Answer
+ways_value pairs d = ways_reading pairs (compile_at [] d)
 
 -- what `inspect ways` answers to a document
-unfoldable pub ways_answer : Asked → List ℕ → DocumentAnswer
-ways_answer asked octets = of_json (ways_value asked) (json_of octets)
+unfoldable pub ways_answer : Pairs → List ℕ → Answer
+ways_answer pairs octets = of_json (ways_value pairs) (json_of octets)
+
+-- what is expected of packets is met by each, or not
+abbrev pub expected_answer : Config → List Expectation → Answer
+expected_answer c packets = record {
+  verdict = if all_met c packets then Good else Differs;
+  text = expect_text c packets;
+}
+
+-- of what was read for `expect`, or not
+abbrev pub expect_reading : Result ExpectInput Fault → Answer
+expect_reading (Err f) = judged (answer_bad f)
+expect_reading (Ok r) = answer_unless (first_broken r.input.topology r.input.config) (expected_answer r.input.config r.packets)
+
+-- of a value
+unfoldable pub expect_value : Data → Answer
+expect_value d = expect_reading (expect_at [] d)
+
+-- what `inspect expect` answers to a document
+unfoldable pub expect_answer : List ℕ → Answer
+expect_answer octets = of_json expect_value (json_of octets)
+
+-- what is answered to a document
+abbrev pub answer : Asked → List ℕ → Answer
+answer (Asks.Ways pairs) octets = ways_answer pairs octets
+answer Asks.Expect octets = expect_answer octets

@@ -5,23 +5,30 @@ use Rattle.std.specs.declared.alloc.Global.{Global}
 use Rattle.ov_types.specs.First.{same_name}
 use Rattle.ov_types.specs.Name.{name_of}
 use Rattle.inspect_answers.specs.declared.asked.Asked.{Asked}
-use Rattle.inspect_answers.specs.declared.asked.Asked.TheVariants.{All, Between}
+use Rattle.inspect_answers.specs.declared.asked.Asked.TheVariants as Asks
+use Rattle.inspect_answers.specs.declared.asked.Pairs.TheVariants.{All, Between}
 
 abbrev pub is_ways : List ℕ → Bool
 is_ways word = pointwise nat_eq word (codes "ways")
 
--- two names of networks that differ
-abbrev pub between : Option (List ℕ) → Option (List ℕ) → Option Asked
-between None to = None
-between (Some from) None = None
-between (Some from) (Some to) = if same_name from to then None else Some (Between from to)
+-- what a command asks for that is given a file alone
+abbrev pub asked_alone : List ℕ → Option Asked
+asked_alone word =
+    if is_ways word then Some (Asks.Ways All)
+    else (if pointwise nat_eq word (codes "expect") then Some Asks.Expect else None)
 
--- what words ask for: `ways` and a file, and then none or two names of networks
+-- the ways between two networks of these names, which differ
+abbrev pub asked_between : Option (List ℕ) → Option (List ℕ) → Option Asked
+asked_between None to = None
+asked_between (Some from) None = None
+asked_between (Some from) (Some to) = if same_name from to then None else Some (Asks.Ways (Between from to))
+
+-- what words ask of a document: a command and the document's file, and, for `ways`, none or two names of networks
 abbrev pub asked_of : List (String Global) → Option Asked
 asked_of [] = None
 asked_of (command ∷ []) = None
-asked_of (command ∷ file ∷ []) = if is_ways (string_bytes command) then Some All else None
+asked_of (command ∷ file ∷ []) = asked_alone (string_bytes command)
 asked_of (command ∷ file ∷ from ∷ []) = None
 asked_of (command ∷ file ∷ from ∷ to ∷ []) =
-    if is_ways (string_bytes command) then between (name_of (string_bytes from)) (name_of (string_bytes to)) else None
+    if is_ways (string_bytes command) then asked_between (name_of (string_bytes from)) (name_of (string_bytes to)) else None
 asked_of (command ∷ file ∷ from ∷ to ∷ other ∷ words) = None

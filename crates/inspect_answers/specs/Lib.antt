@@ -1,6 +1,15 @@
 pub mod Ways
+pub mod Fates
+pub mod Deliveries
+pub mod Objects
+pub mod Unnamed
 pub mod Lines
+pub mod Expectations
+pub mod ExpectDocuments
+pub mod Expecting
 pub mod Answers
+pub mod Differences
 pub mod Commands
-pub mod Runs
 pub mod Promise
+pub mod Unmet
+pub mod Runs

@@ -10,8 +10,8 @@ use Rattle.policy_regions.specs.declared.region.Region.{Region}
 use Rattle.report.specs.Objects.{range_text}
 use Rattle.report.specs.Outcomes.{services_text}
 use Rattle.inspect_answers.specs.Ways.{ways_between}
-use Rattle.inspect_answers.specs.declared.asked.Asked.{Asked}
-use Rattle.inspect_answers.specs.declared.asked.Asked.TheVariants.{All, Between}
+use Rattle.inspect_answers.specs.declared.asked.Pairs.{Pairs}
+use Rattle.inspect_answers.specs.declared.asked.Pairs.TheVariants.{All, Between}
 use Rattle.inspect_answers.specs.declared.way.Passage.{Passage}
 use Rattle.inspect_answers.specs.declared.way.Passage.TheVariants as Goes
 use Rattle.inspect_answers.specs.declared.way.Way.{Way}
@@ -40,7 +40,7 @@ way_line from to w =
     ++ (passage_text w.decision.rule w.passage ++ (10 ∷ [])))))))
 
 -- two networks are asked for: each two that differ, or the two of these names
-abbrev pub is_asked : Asked → Network → Network → Bool
+abbrev pub is_asked : Pairs → Network → Network → Bool
 is_asked All a b = not (same_name a.name b.name)
 is_asked (Between from to) a b = same_name a.name from && same_name b.name to
 
@@ -48,13 +48,13 @@ is_asked (Between from to) a b = same_name a.name from && same_name b.name to
 abbrev pub between_text : Config → Network → Network → List ℕ
 between_text c a b = flat_map (way_line a.name b.name) (ways_between c a b)
 
-abbrev pub pair_text : Asked → Config → Network → Network → List ℕ
-pair_text asked c a b = if is_asked asked a b then between_text c a b else []
+abbrev pub pair_text : Pairs → Config → Network → Network → List ℕ
+pair_text pairs c a b = if is_asked pairs a b then between_text c a b else []
 
 -- the ways from one network to each, in the document's order
-abbrev pub network_text : Asked → Config → Network → List ℕ
-network_text asked c a = flat_map (pair_text asked c a) c.networks
+abbrev pub network_text : Pairs → Config → Network → List ℕ
+network_text pairs c a = flat_map (pair_text pairs c a) c.networks
 
 -- what `inspect ways` writes of a valid configuration
-unfoldable pub ways_text : Asked → Config → List ℕ
-ways_text asked c = flat_map (network_text asked c) c.networks
+unfoldable pub ways_text : Pairs → Config → List ℕ
+ways_text pairs c = flat_map (network_text pairs c) c.networks

@@ -15,8 +15,8 @@ use Rattle.policy_regions.specs.Parts.{IsTuple}
 use Rattle.policy_regions.specs.Regions.{holds}
 use Rattle.inspect_answers.specs.Lines.{is_asked, way_line}
 use Rattle.inspect_answers.specs.Ways.{IsLetThrough, IsOnOneAtMost, ways_between}
-use Rattle.inspect_answers.specs.declared.asked.Asked.{Asked}
-use Rattle.inspect_answers.specs.declared.asked.Asked.TheVariants.{All, Between}
+use Rattle.inspect_answers.specs.declared.asked.Pairs.{Pairs}
+use Rattle.inspect_answers.specs.declared.asked.Pairs.TheVariants.{All, Between}
 use Rattle.inspect_answers.specs.declared.way.Passage.{Passage}
 use Rattle.inspect_answers.specs.declared.way.Way.{Way}
 
@@ -30,18 +30,18 @@ abbrev pub line_text : Line → List ℕ
 line_text l = way_line l.from.name l.to.name l.way
 
 -- the lines of two networks, where these are asked for
-abbrev pub pair_lines : Asked → Config → Network → Network → List Line
-pair_lines asked c a b =
-    if is_asked asked a b then map (λ w. record { from = a; to = b; way = w }) (ways_between c a b) else []
+abbrev pub pair_lines : Pairs → Config → Network → Network → List Line
+pair_lines pairs c a b =
+    if is_asked pairs a b then map (λ w. record { from = a; to = b; way = w }) (ways_between c a b) else []
 
-abbrev pub network_lines : Asked → Config → Network → List Line
-network_lines asked c a = flat_map (pair_lines asked c a) c.networks
+abbrev pub network_lines : Pairs → Config → Network → List Line
+network_lines pairs c a = flat_map (pair_lines pairs c a) c.networks
 
-abbrev pub lines_of : Asked → Config → List Line
-lines_of asked c = flat_map (network_lines asked c) c.networks
+abbrev pub lines_of : Pairs → Config → List Line
+lines_of pairs c = flat_map (network_lines pairs c) c.networks
 
 -- two networks are asked for: each two that differ, or the two of these names
-abbrev pub IsAskedFor : Asked → Network → Network → Type 0
+abbrev pub IsAskedFor : Pairs → Network → Network → Type 0
 IsAskedFor All a b = a.name ≢ b.name
 IsAskedFor (Between from to) a b = (a.name ≡ from) × (b.name ≡ to)
 
@@ -56,10 +56,10 @@ pub record Tells (lines : List Line) (a b : Network) (t : Tuple) (d : Decision) 
   pub goes : line.way.passage ≡ passage
 
 -- two networks of a configuration are asked for, and what decides between them lets a tuple through
-pub record IsLetBetween (asked : Asked) (c : Config) (a b : Network) (t : Tuple) (d : Decision) (passage : Passage) : Type 0 where
+pub record IsLetBetween (pairs : Pairs) (c : Config) (a b : Network) (t : Tuple) (d : Decision) (passage : Passage) : Type 0 where
   pub from_stands : Contains c.networks a
   pub to_stands : Contains c.networks b
-  pub asked_for : IsAskedFor asked a b
+  pub asked_for : IsAskedFor pairs a b
   pub let_through : IsLetThrough c a b t d passage
 
 -- the input is a document of this topology and this configuration
@@ -68,12 +68,12 @@ IsWrittenIn octets p = (d : Data) × (json_of octets ≡ Some d) × (compile_at 
 
 -- the input has a valid configuration, and these lines of it were taken: one holds a tuple of a packet from one network to
 -- another exactly where these are asked for and the rule that decides lets it through, with that rule and so
-pub record TookWays (asked : Asked) (octets : List ℕ) (old new : Option (List ℕ)) : Type 0 where
+pub record TookWays (pairs : Pairs) (octets : List ℕ) (old new : Option (List ℕ)) : Type 0 where
   pub input : CompileInput
   pub written : IsWrittenIn octets input
   pub valid : first_broken input.topology input.config ≡ None
   pub lines : List Line
   pub taken : Appends old new (flat_map line_text lines)
   pub exact : (a b : Network) (t : Tuple) (d : Decision) (passage : Passage) → IsTuple t
-      → Tells lines a b t d passage ↔ IsLetBetween asked input.config a b t d passage
+      → Tells lines a b t d passage ↔ IsLetBetween pairs input.config a b t d passage
   pub apart : (a b : Network) (t : Tuple) → IsTuple t → IsOnOneAtMost (ways_between input.config a b) t

@@ -1,11 +1,14 @@
 -- How a run ends, by what was asked and by the octets that its source held.
 use Rattle.std.specs.Prelude.{◌≡◌, ℕ, ◌≤◌, List, length, Option, Some, None, ⊤}
-use Rattle.compile_answers.specs.declared.unfit.Reception.{Reception}
-use Rattle.compile_answers.specs.declared.unfit.Reception.TheVariants as Found
-use Rattle.inspect_answers.specs.Answers.{ways_answer}
+use Rattle.inspect_answers.specs.Answers.{answer}
+use Rattle.inspect_answers.specs.Promise.{TookWays}
+use Rattle.inspect_answers.specs.Unmet.{TookExpected}
 use Rattle.inspect_answers.specs.declared.asked.Asked.{Asked}
+use Rattle.inspect_answers.specs.declared.asked.Asked.TheVariants as Asks
 use Rattle.inspect_answers.specs.declared.top.Status.{Status}
 use Rattle.inspect_answers.specs.declared.top.Status.TheVariants as Ended
+use Rattle.inspect_answers.specs.declared.verdict.Verdict.{Verdict}
+use Rattle.inspect_answers.specs.declared.verdict.Verdict.TheVariants as Found
 
 -- a fact of an input; nothing is said of one that the source does not tell
 abbrev pub OfOctets : Option (List ℕ) → (List ℕ → Type 0) → Type 0
@@ -23,16 +26,17 @@ IfInput None held Fact = ⊤
 IfInput (Some asked) held Fact = OfOctets held (Fact asked)
 
 -- the input is no longer than the limit, and is found to be this
-abbrev pub IsFound : ℕ → Reception → Asked → List ℕ → Type 0
-IsFound limit verdict asked octets = (length octets ≤ limit) × ((ways_answer asked octets).verdict ≡ verdict)
+abbrev pub IsFound : ℕ → Verdict → Asked → List ℕ → Type 0
+IsFound limit verdict asked octets = (length octets ≤ limit) × ((answer asked octets).verdict ≡ verdict)
 
 -- the text is what is written of an input
 abbrev pub Writes : Asked → List ℕ → List ℕ → Type 0
-Writes asked octets text = text ≡ (ways_answer asked octets).text
+Writes asked octets text = text ≡ (answer asked octets).text
 
 -- the status that tells a verdict
-abbrev pub status_of : Reception → Status
+abbrev pub status_of : Verdict → Status
 status_of Found.Good = Ended.Done
+status_of Found.Differs = Ended.Differs
 status_of Found.NotJson = Ended.NotJson
 status_of Found.BadDocument = Ended.BadDocument
 status_of Found.Refused = Ended.Refused
@@ -40,6 +44,7 @@ status_of Found.Refused = Ended.Refused
 -- the number of a status
 abbrev pub number_of : Status → ℕ
 number_of Ended.Done = 0
+number_of Ended.Differs = 1
 number_of Ended.Usage = 2
 number_of Ended.ReadFault = 3
 number_of Ended.TooLong = 4
@@ -49,9 +54,16 @@ number_of Ended.Refused = 7
 number_of Ended.WriteFault = 8
 number_of Ended.NoMemory = 9
 
+-- the status is that of what is asked, answered whole
+abbrev pub IsAnswered : Status → Type 0
+IsAnswered Ended.Done = ⊤
+IsAnswered Ended.Differs = ⊤
+IsAnswered _ = ⊥
+
 -- the status is that of an answer that was written whole
 abbrev pub IsWritten : Status → Type 0
 IsWritten Ended.Done = ⊤
+IsWritten Ended.Differs = ⊤
 IsWritten Ended.NotJson = ⊤
 IsWritten Ended.BadDocument = ⊤
 IsWritten Ended.Refused = ⊤
@@ -69,3 +81,8 @@ IsSilent Ended.Usage = ⊤
 IsSilent Ended.ReadFault = ⊤
 IsSilent Ended.TooLong = ⊤
 IsSilent _ = ⊥
+
+-- what is promised where what is asked is answered, by the status
+abbrev pub Keeps : Asked → Status → List ℕ → Option (List ℕ) → Option (List ℕ) → Type 0
+Keeps (Asks.Ways pairs) status octets old new = (status ≡ Ended.Done) × TookWays pairs octets old new
+Keeps Asks.Expect status octets old new = TookExpected status octets old new

@@ -1,18 +1,19 @@
 //! The answer to a document.
-ghost use Rattle.std.specs.Prelude.{◌≡◌, ◌≢◌, None, option_to_list, IfOk, IfErr, OnErr};
+ghost use Rattle.std.specs.Prelude.{◌≡◌, IfOk, IfErr, OnErr};
 ghost use Rattle.serde_json.specs.View.{view};
 ghost use Rattle.ov_io.specs.Inputs.{TookFront};
 ghost use Rattle.ov_io.specs.Pieces.{HasWriteCause};
-ghost use Rattle.config_types.specs.declared.config.Config.{Config as Configuration};
-ghost use Rattle.compile_answers.specs.Answers.{IsAnswered, WasGiven, answer_good};
-ghost use Rattle.inspect_answers.specs.Answers.{missing, missing_of, valid_answer, ways_answer, ways_value};
-ghost use Rattle.compile_answers.specs.Leaving.{PromisedOn};
+ghost use Rattle.compile_answers.specs.Answers.{answer_good};
+ghost use Rattle.inspect_answers.specs.Answers.{IsAnswer, IsUnfit, WasGiven, answer, judged, missing, missing_of};
+ghost use Rattle.inspect_answers.specs.Answers.{valid_answer, ways_answer, ways_value};
 ghost use Rattle.inspect_answers.specs.Lines.{ways_text};
-ghost use Rattle.inspect_answers.specs.Promise.{TookWays};
+ghost use Rattle.inspect_answers.specs.Runs.{Keeps, status_of};
 
-use crate::asked::Asked;
-use crate::writing::write_asked;
-use compile_answers::{Reception, Unfit, valid_of, write_unfit};
+use crate::asked::{Asked, Pairs};
+use crate::expecting::answer_expect;
+use crate::verdict::{Verdict, answer_unfit};
+use crate::writing::write_all_ways;
+use compile_answers::{Unfit, valid_of};
 use config_check::{Refusal, Valid, network_named};
 use config_model::{ReadRefusal, read_compile};
 use config_types::Config;
@@ -33,12 +34,12 @@ fn missing(config: &Config, name: &Name) -> Option<Refusal>
 }
 
 /// The first of the networks that are asked for which is not there.
-fn missing_of(asked: &Asked, config: &Config) -> Option<Refusal>
-    ensures { result ≡ missing_of asked.now config.now }
+fn missing_of(pairs: &Pairs, config: &Config) -> Option<Refusal>
+    ensures { result ≡ missing_of pairs.now config.now }
 {
-    match asked {
-        Asked::All => None,
-        Asked::Between { from, to } => match missing(config, from) {
+    match pairs {
+        Pairs::All => None,
+        Pairs::Between { from, to } => match missing(config, from) {
             Some(refusal) => Some(refusal),
             None => missing(config, to),
         },
@@ -46,11 +47,11 @@ fn missing_of(asked: &Asked, config: &Config) -> Option<Refusal>
 }
 
 /// A valid configuration that has the networks that are asked for.
-fn having(asked: &Asked, valid: Valid) -> Result<Valid, Unfit>
-    ensures fit { IfOk result (λ v. valid_answer asked.now valid.config ≡ answer_good (ways_text asked.now v.config)) }
-    ensures unfit { IfErr result (λ unfit. IsAnswered unfit (valid_answer asked.now valid.config)) }
+fn having(pairs: &Pairs, valid: Valid) -> Result<Valid, Unfit>
+    ensures fit { IfOk result (λ v. valid_answer pairs.now valid.config ≡ judged (answer_good (ways_text pairs.now v.config))) }
+    ensures unfit { IfErr result (λ unfit. IsUnfit unfit (valid_answer pairs.now valid.config)) }
 {
-    match missing_of(asked, valid.config()) {
+    match missing_of(pairs, valid.config()) {
         Some(refusal) => Err(Unfit::Refused(refusal)),
         None => Ok(valid),
     }
@@ -58,14 +59,14 @@ fn having(asked: &Asked, valid: Valid) -> Result<Valid, Unfit>
 
 /// What is taken from a value.
 #[tactic(auto, using(crate::proofs::Unfitting::unfit_anyway), unfolding(crate::specs::Answers::ways_value))]
-fn ways_taken(alloc: Global, asked: &Asked, value: &Value) -> Result<Valid, Unfit>
-    ensures fit { IfOk result (λ valid. ways_value asked.now (view value.now)
-        ≡ answer_good (ways_text asked.now valid.config)) }
-    ensures unfit { IfErr result (λ unfit. IsAnswered unfit (ways_value asked.now (view value.now))) }
+fn ways_taken(alloc: Global, pairs: &Pairs, value: &Value) -> Result<Valid, Unfit>
+    ensures fit { IfOk result (λ valid. ways_value pairs.now (view value.now)
+        ≡ judged (answer_good (ways_text pairs.now valid.config))) }
+    ensures unfit { IfErr result (λ unfit. IsUnfit unfit (ways_value pairs.now (view value.now))) }
 {
     match read_compile(alloc, value) {
         Ok(input) => match valid_of(alloc, input) {
-            Ok(valid) => having(asked, valid),
+            Ok(valid) => having(pairs, valid),
             Err(unfit) => Err(unfit),
         },
         Err(ReadRefusal::Doc(fault)) => Err(Unfit::BadDocument(fault)),
@@ -75,38 +76,58 @@ fn ways_taken(alloc: Global, asked: &Asked, value: &Value) -> Result<Valid, Unfi
 
 /// What is taken from an input.
 #[tactic(auto, unfolding(crate::specs::Answers::ways_answer))]
-fn ways_asked(alloc: Global, asked: &Asked, octets: &[u8]) -> Result<Valid, Unfit>
-    ensures fit { IfOk result (λ valid. ways_answer asked.now octets.now
-        ≡ answer_good (ways_text asked.now valid.config)) }
-    ensures unfit { IfErr result (λ unfit. IsAnswered unfit (ways_answer asked.now octets.now)) }
+fn ways_asked(alloc: Global, pairs: &Pairs, octets: &[u8]) -> Result<Valid, Unfit>
+    ensures fit { IfOk result (λ valid. ways_answer pairs.now octets.now
+        ≡ judged (answer_good (ways_text pairs.now valid.config))) }
+    ensures unfit { IfErr result (λ unfit. IsUnfit unfit (ways_answer pairs.now octets.now)) }
 {
     match value_of(alloc, octets) {
-        Ok(Some(value)) => ways_taken(alloc, asked, &value),
+        Ok(Some(value)) => ways_taken(alloc, pairs, &value),
         Ok(None) => Err(Unfit::NotJson),
         Err(NoMemory) => Err(Unfit::NoMemory),
     }
 }
 
+/// Writes the ways that are asked for of an input.
+fn answer_ways<K: Sink>(
+    alloc: Global,
+    pairs: &Pairs,
+    octets: &[u8],
+    sink: &mut K,
+) -> Result<Verdict, WriteRefusal>
+    ensures given { IfOk result (λ verdict. WasGiven (ways_answer pairs.now octets.now) verdict
+        (K.taken sink.old) (K.taken sink.new)) }
+    ensures front { OnErr result (TookFront (K.taken sink.old) (K.taken sink.new)
+        (ways_answer pairs.now octets.now).text) }
+    ensures cause { HasWriteCause (K.faults sink.old) (K.faults sink.new) result }
+{
+    match ways_asked(alloc, pairs, octets) {
+        Ok(valid) => {
+            write_all_ways(alloc, pairs, &valid, sink)?;
+            Ok(Verdict::Good)
+        }
+        Err(unfit) => answer_unfit(alloc, unfit, sink),
+    }
+}
+
 /// Writes what is answered to an input.
-#[tactic(auto, using(compile_answers::proofs::NothingLeft::promises_none, crate::proofs::Told::took_ways))]
-pub(crate) fn answer_ways<K: Sink>(
+#[tactic(auto, using(crate::proofs::Keeping::keeps))]
+pub(crate) fn answer<K: Sink>(
     alloc: Global,
     asked: &Asked,
     octets: &[u8],
     sink: &mut K,
-) -> Result<Reception, WriteRefusal>
-    ensures given { IfOk result (λ verdict. WasGiven (ways_answer asked.now octets.now) verdict
+) -> Result<Verdict, WriteRefusal>
+    ensures given { IfOk result (λ verdict. WasGiven (answer asked.now octets.now) verdict
         (K.taken sink.old) (K.taken sink.new)) }
     ensures front { OnErr result (TookFront (K.taken sink.old) (K.taken sink.new)
-        (ways_answer asked.now octets.now).text) }
+        (answer asked.now octets.now).text) }
     ensures cause { HasWriteCause (K.faults sink.old) (K.faults sink.new) result }
-    ensures promise { PromisedOn (TookWays asked.now octets.now (K.taken sink.old) (K.taken sink.new)) result }
+    ensures promise { IfOk result (λ verdict. IsAnswer verdict
+        → Keeps asked.now (status_of verdict) octets.now (K.taken sink.old) (K.taken sink.new)) }
 {
-    match ways_asked(alloc, asked, octets) {
-        Ok(valid) => {
-            write_asked(alloc, asked, &valid, sink)?;
-            Ok(Reception::Good)
-        }
-        Err(unfit) => write_unfit(alloc, unfit, sink),
+    match asked {
+        Asked::Ways(pairs) => answer_ways(alloc, pairs, octets, sink),
+        Asked::Expect => answer_expect(alloc, octets, sink),
     }
 }

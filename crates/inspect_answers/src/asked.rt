@@ -1,26 +1,37 @@
 //! What is asked for by the words of the command line.
 ghost use Rattle.std.specs.Prelude.{◌≡◌};
 ghost use Rattle.ov_types.specs.Name.{name_of};
-ghost use Rattle.inspect_answers.specs.Commands.{asked_of, between, is_ways};
+ghost use Rattle.inspect_answers.specs.Commands.{asked_alone, asked_between, asked_of, is_ways};
 
 use ov_types::Name;
 
-/// Between which networks ways are asked for.
+/// From which networks ways are asked for, and to which.
 #[derive(Clone, Copy, PartialEq, Eq)]
-pub enum Asked {
+pub enum Pairs {
     /// From each network to each other.
     All,
     Between { from: Name, to: Name },
 }
 
-/// What the words after the program's name ask for: `ways` and a file, and then none or two names of networks that
-/// differ.
+/// What is asked of a document.
+#[derive(Clone, Copy, PartialEq, Eq)]
+pub enum Asked {
+    /// What is let through between networks.
+    Ways(Pairs),
+    /// Which packets have another outcome than is expected.
+    Expect,
+}
+
+/// What the words after the program's name ask of a document: a command and the document's file, and, for `ways`, none
+/// or two names of networks that differ.
 pub fn asked_of(words: &[String]) -> Option<Asked>
     ensures { result ≡ asked_of words.now }
 {
     match words {
-        [command, _] if is_ways(command.as_str()) => Some(Asked::All),
-        [command, _, from, to] if is_ways(command.as_str()) => between(from.as_str(), to.as_str()),
+        [command, _] => asked_alone(command.as_str()),
+        [command, _, from, to] if is_ways(command.as_str()) => {
+            asked_between(from.as_str(), to.as_str())
+        }
         _ => None,
     }
 }
@@ -31,13 +42,24 @@ fn is_ways(word: &str) -> bool
     word == "ways"
 }
 
-fn between(from: &str, to: &str) -> Option<Asked>
-    ensures { result ≡ between (name_of from.now) (name_of to.now) }
+/// What a command asks for that is given a file alone.
+fn asked_alone(command: &str) -> Option<Asked>
+    ensures { result ≡ asked_alone command.now }
+{
+    match command {
+        "ways" => Some(Asked::Ways(Pairs::All)),
+        "expect" => Some(Asked::Expect),
+        _ => None,
+    }
+}
+
+fn asked_between(from: &str, to: &str) -> Option<Asked>
+    ensures { result ≡ asked_between (name_of from.now) (name_of to.now) }
 {
     let from = Name::new(from)?;
     let to = Name::new(to)?;
     if from == to {
         return None;
     }
-    Some(Asked::Between { from, to })
+    Some(Asked::Ways(Pairs::Between { from, to }))
 }

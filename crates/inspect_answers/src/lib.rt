@@ -1,18 +1,34 @@
 //! The answers of `inspect`: what policies let through from each network to each other, by which rule and through which
-//! services.
+//! services, what differs between two configurations, and which packets have another outcome than is expected.
 #![tactic(auto)]
 
 mod answering;
 mod asked;
+mod difference_lines;
+mod differences;
+mod diffing;
+mod expect_lines;
+mod expect_reader;
+mod expectation;
+mod expecting;
+mod fate;
 pub mod laws;
 mod lines;
+mod objects;
 mod services;
 mod top;
+mod verdict;
 mod way;
 mod ways;
 mod writing;
 
-pub use asked::{Asked, asked_of};
+pub use asked::{Asked, Pairs, asked_of};
+pub use differences::differences_between;
+pub use diffing::{Comparison, answer_diff};
+pub use expectation::{ExpectInput, Expectation, Expected};
+pub use fate::{Difference, Fate};
+pub use objects::Object;
 pub use top::{Status, inspect};
+pub use verdict::Verdict;
 pub use way::{Passage, Way};
 pub use ways::ways_between;

@@ -50,7 +50,7 @@ impl fmt::Display for ProtocolsText {
 
 /// A region, as it is printed.
 #[derive(Clone, Copy)]
-struct RegionText(Region);
+pub(crate) struct RegionText(pub(crate) Region);
 
 impl fmt::Display for RegionText {
     ghost output = { λ r. Some (region_text r.0) };
@@ -83,7 +83,7 @@ fn append_behind_comma(service: ServiceNo, text: &mut String) -> Result<(), Allo
 }
 
 /// Services joined by commas, and `-` where there are none.
-fn joined(alloc: Global, services: &[ServiceNo]) -> Result<String, AllocError>
+pub(crate) fn joined(alloc: Global, services: &[ServiceNo]) -> Result<String, AllocError>
     ensures { IfOk result (λ s. string_bytes s ≡ services_text services.now) }
 {
     match services {

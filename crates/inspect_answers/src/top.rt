@@ -3,15 +3,15 @@ ghost use Rattle.std.specs.Prelude.{◌≡◌, ◌≢◌, ◌↔◌, ◌<◌, �
 ghost use Rattle.ov_io.specs.Causes.{Rose};
 ghost use Rattle.ov_io.specs.Inputs.{WasReadWhole};
 ghost use Rattle.ov_io.specs.Pieces.{TookFrontOf, TookText};
-ghost use Rattle.inspect_answers.specs.Answers.{ways_answer};
+ghost use Rattle.inspect_answers.specs.Answers as answers;
 ghost use Rattle.inspect_answers.specs.Commands as commands;
-ghost use Rattle.inspect_answers.specs.Promise.{TookWays};
-ghost use Rattle.inspect_answers.specs.Runs.{IfInput, IsCut, IsFound, IsSilent, IsWritten, OfInput, Writes};
+ghost use Rattle.inspect_answers.specs.Runs.{IfInput, IsAnswered, IsCut, IsFound, IsSilent, IsWritten, Keeps};
+ghost use Rattle.inspect_answers.specs.Runs.{OfInput, Writes};
 ghost use Rattle.inspect_answers.specs.Runs.{number_of, status_of};
 
-use crate::answering::answer_ways;
+use crate::answering::answer;
 use crate::asked::asked_of;
-use compile_answers::Reception;
+use crate::verdict::Verdict;
 use ov_io::{InputRefusal, Sink, Source, WriteRefusal, read_all};
 use std::alloc::Global;
 
@@ -21,7 +21,10 @@ pub(crate) const MAX_INPUT_OCTETS: usize = 16_777_216;
 /// How a run ended. Its number is the exit status of the program.
 #[derive(Clone, Copy, PartialEq, Eq)]
 pub enum Status {
+    /// What is asked is answered, and nothing in it differs.
     Done,
+    /// What is asked is answered, and something in it differs: an outcome is otherwise than is expected.
+    Differs,
     Usage,
     ReadFault,
     TooLong,
@@ -39,6 +42,7 @@ impl Status {
     {
         match self {
             Status::Done => 0,
+            Status::Differs => 1,
             Status::Usage => 2,
             Status::ReadFault => 3,
             Status::TooLong => 4,
@@ -65,16 +69,18 @@ pub fn inspect<S: Source, K: Sink>(
     ensures too_long { result ≡ Status.TooLong
         → OfInput (commands.asked_of words.now) (S.left source.old) (λ asked octets. MAX_INPUT_OCTETS < length octets) }
     ensures not_json { result ≡ Status.NotJson
-        → OfInput (commands.asked_of words.now) (S.left source.old) (IsFound MAX_INPUT_OCTETS Reception.NotJson) }
+        → OfInput (commands.asked_of words.now) (S.left source.old) (IsFound MAX_INPUT_OCTETS Verdict.NotJson) }
     ensures bad_document { result ≡ Status.BadDocument
-        → OfInput (commands.asked_of words.now) (S.left source.old) (IsFound MAX_INPUT_OCTETS Reception.BadDocument) }
+        → OfInput (commands.asked_of words.now) (S.left source.old) (IsFound MAX_INPUT_OCTETS Verdict.BadDocument) }
     ensures refused { result ≡ Status.Refused
-        → OfInput (commands.asked_of words.now) (S.left source.old) (IsFound MAX_INPUT_OCTETS Reception.Refused) }
+        → OfInput (commands.asked_of words.now) (S.left source.old) (IsFound MAX_INPUT_OCTETS Verdict.Refused) }
     ensures write_fault { result ≡ Status.WriteFault → Rose (K.faults sink.old) (K.faults sink.new) }
     ensures write_fault_within { result ≡ Status.WriteFault
         → OfInput (commands.asked_of words.now) (S.left source.old) (λ asked octets. length octets ≤ MAX_INPUT_OCTETS) }
     ensures done { result ≡ Status.Done
-        → OfInput (commands.asked_of words.now) (S.left source.old) (IsFound MAX_INPUT_OCTETS Reception.Good) }
+        → OfInput (commands.asked_of words.now) (S.left source.old) (IsFound MAX_INPUT_OCTETS Verdict.Good) }
+    ensures differs { result ≡ Status.Differs
+        → OfInput (commands.asked_of words.now) (S.left source.old) (IsFound MAX_INPUT_OCTETS Verdict.Differs) }
 
     // What is written.
     ensures written { IsWritten result → OfInput (commands.asked_of words.now) (S.left source.old)
@@ -84,8 +90,8 @@ pub fn inspect<S: Source, K: Sink>(
     ensures silent { IsSilent result → sink.new ≡ sink.old }
 
     // What is promised of packets.
-    ensures promise { result ≡ Status.Done → OfInput (commands.asked_of words.now) (S.left source.old)
-        (λ asked octets. TookWays asked octets (K.taken sink.old) (K.taken sink.new)) }
+    ensures promise { IsAnswered result → OfInput (commands.asked_of words.now) (S.left source.old)
+        (λ asked octets. Keeps asked result octets (K.taken sink.old) (K.taken sink.new)) }
 
     // What is read.
     ensures read_whole { IsWritten result ⊎ (result ≡ Status.WriteFault)
@@ -97,7 +103,7 @@ pub fn inspect<S: Source, K: Sink>(
     ensures complete { ¬ Rose (S.faults source.old) (S.faults source.new)
         → ¬ Rose (K.faults sink.old) (K.faults sink.new)
         → IfInput (commands.asked_of words.now) (S.left source.old) (λ asked octets. length octets ≤ MAX_INPUT_OCTETS
-        → (result ≡ status_of (ways_answer asked octets).verdict) ⊎ (result ≡ Status.NoMemory)) }
+        → (result ≡ status_of (answers.answer asked octets).verdict) ⊎ (result ≡ Status.NoMemory)) }
     ensures reads_kept { result ≢ Status.ReadFault → S.faults source.new ≡ S.faults source.old }
     ensures writes_kept { result ≢ Status.WriteFault → K.faults sink.new ≡ K.faults sink.old }
 {
@@ -110,7 +116,7 @@ pub fn inspect<S: Source, K: Sink>(
         Err(InputRefusal::TooLong) => return Status::TooLong,
         Err(InputRefusal::NoMemory) => return Status::NoMemory,
     };
-    match answer_ways(alloc, &asked, octets.as_slice(), sink) {
+    match answer(alloc, &asked, octets.as_slice(), sink) {
         Ok(verdict) => status_from(verdict),
         Err(WriteRefusal::Fault) => Status::WriteFault,
         Err(WriteRefusal::NoMemory) => Status::NoMemory,
@@ -118,13 +124,14 @@ pub fn inspect<S: Source, K: Sink>(
 }
 
 /// The status that tells a verdict.
-fn status_from(verdict: Reception) -> Status
+fn status_from(verdict: Verdict) -> Status
     ensures { result ≡ status_of verdict }
 {
     match verdict {
-        Reception::Good => Status::Done,
-        Reception::NotJson => Status::NotJson,
-        Reception::BadDocument => Status::BadDocument,
-        Reception::Refused => Status::Refused,
+        Verdict::Good => Status::Done,
+        Verdict::Differs => Status::Differs,
+        Verdict::NotJson => Status::NotJson,
+        Verdict::BadDocument => Status::BadDocument,
+        Verdict::Refused => Status::Refused,
     }
 }

@@ -11,7 +11,7 @@ use crate::way::{Passage, Way};
 use config_check::Valid;
 use config_types::Network;
 use ov_types::{Items, NoMemory};
-use policy_regions::{DecidedRegion, Effect, regions_between};
+use policy_regions::{DecidedRegion, Effect, LastFound, regions_between};
 use std::alloc::Global;
 
 /// The way of a region, where packets are let through there.
@@ -72,5 +72,21 @@ pub fn ways_between(
 {
     let regions = regions_between(alloc, valid.config(), from, to)?;
     let ways = ways_of_each(alloc, valid, regions.as_slice())?;
+    Ok(Items::from_vec(ways))
+}
+
+/// The ways from one network to another, by regions that may be those that were found last.
+#[tactic(auto, using(reach_plain::proofs::Kept::few_rules))]
+pub(crate) fn ways_found(
+    alloc: Global,
+    valid: &Valid,
+    last: &mut LastFound,
+    from: &Network,
+    to: &Network,
+) -> Result<Items<Way>, NoMemory>
+    ensures { IfOk result (λ list. list ≡ ways_between valid.now.config from.now to.now) }
+{
+    last.find(alloc, valid.config(), from, to)?;
+    let ways = ways_of_each(alloc, valid, last.regions())?;
     Ok(Items::from_vec(ways))
 }

@@ -3,34 +3,35 @@ ghost use Rattle.std.specs.Prelude.{◌≡◌, ◌++◌, [], flat_map, OnOk, OnE
 ghost use Rattle.std.specs.Io.KnownBytes.{Appends};
 ghost use Rattle.ov_io.specs.Inputs.{TookFront};
 ghost use Rattle.ov_io.specs.Pieces.{HasWriteCause, IsOnItsWay};
-ghost use Rattle.inspect_answers.specs.Lines.{between_text, is_asked, network_text, pair_text, way_line, ways_text};
+ghost use Rattle.inspect_answers.specs.Lines.{between_text, is_asked, network_text, pair_text, ways_text};
 
-use crate::asked::Asked;
+use crate::asked::Pairs;
 use crate::lines::WayLines;
-use crate::way::Way;
-use crate::ways::ways_between;
+use crate::ways::ways_found;
 use compile_answers::write_one;
 use config_check::Valid;
 use config_types::Network;
 use ov_io::{Sink, TextOut, WriteRefusal, write_gathered};
+use policy_regions::LastFound;
+use report::LinesOf;
 use std::alloc::Global;
 
-/// Hands on the line of each way, in order.
-fn write_ways<K: Sink>(
+/// Hands on the lines of each thing, in order.
+pub(crate) fn write_each<K: Sink, T, W: LinesOf<T>>(
     alloc: Global,
-    lines: &WayLines,
-    ways: &[Way],
+    lines: &W,
+    items: &[T],
     sink: &mut K,
     gathered: &mut TextOut,
 ) -> Result<(), WriteRefusal>
     ensures ok { OnOk result (IsOnItsWay (K.taken sink.old) (K.taken sink.new) gathered.new []
-        (gathered.old ++ flat_map (way_line lines.now.from lines.now.to) ways.now)) }
+        (gathered.old ++ flat_map (W.lines lines.now) items.now)) }
     ensures front { OnErr result (TookFront (K.taken sink.old) (K.taken sink.new)
-        (gathered.old ++ flat_map (way_line lines.now.from lines.now.to) ways.now)) }
+        (gathered.old ++ flat_map (W.lines lines.now) items.now)) }
     ensures cause { HasWriteCause (K.faults sink.old) (K.faults sink.new) result }
 {
-    for way in ways {
-        write_one(alloc, lines, way, sink, gathered)?;
+    for item in items {
+        write_one(alloc, lines, item, sink, gathered)?;
     }
     Ok(())
 }
@@ -40,6 +41,7 @@ fn write_ways<K: Sink>(
 fn write_between<K: Sink>(
     alloc: Global,
     valid: &Valid,
+    last: &mut LastFound,
     from: &Network,
     to: &Network,
     sink: &mut K,
@@ -51,20 +53,20 @@ fn write_between<K: Sink>(
         (gathered.old ++ between_text valid.now.config from.now to.now)) }
     ensures cause { HasWriteCause (K.faults sink.old) (K.faults sink.new) result }
 {
-    let ways = ways_between(alloc, valid, from, to)?;
+    let ways = ways_found(alloc, valid, last, from, to)?;
     let lines = WayLines {
         from: from.name,
         to: to.name,
     };
-    write_ways(alloc, &lines, ways.as_slice(), sink, gathered)
+    write_each(alloc, &lines, ways.as_slice(), sink, gathered)
 }
 
-fn is_asked(asked: &Asked, from: &Network, to: &Network) -> bool
-    ensures { result ≡ is_asked asked.now from.now to.now }
+fn is_asked(pairs: &Pairs, from: &Network, to: &Network) -> bool
+    ensures { result ≡ is_asked pairs.now from.now to.now }
 {
-    match asked {
-        Asked::All => from.name != to.name,
-        Asked::Between {
+    match pairs {
+        Pairs::All => from.name != to.name,
+        Pairs::Between {
             from: source,
             to: destination,
         } => from.name == *source && to.name == *destination,
@@ -75,21 +77,22 @@ fn is_asked(asked: &Asked, from: &Network, to: &Network) -> bool
 #[tactic(auto, using(ov_io::proofs::PieceLemmas::way_stays))]
 fn write_pair<K: Sink>(
     alloc: Global,
-    asked: &Asked,
+    pairs: &Pairs,
     valid: &Valid,
+    last: &mut LastFound,
     from: &Network,
     to: &Network,
     sink: &mut K,
     gathered: &mut TextOut,
 ) -> Result<(), WriteRefusal>
     ensures ok { OnOk result (IsOnItsWay (K.taken sink.old) (K.taken sink.new) gathered.new []
-        (gathered.old ++ pair_text asked.now valid.now.config from.now to.now)) }
+        (gathered.old ++ pair_text pairs.now valid.now.config from.now to.now)) }
     ensures front { OnErr result (TookFront (K.taken sink.old) (K.taken sink.new)
-        (gathered.old ++ pair_text asked.now valid.now.config from.now to.now)) }
+        (gathered.old ++ pair_text pairs.now valid.now.config from.now to.now)) }
     ensures cause { HasWriteCause (K.faults sink.old) (K.faults sink.new) result }
 {
-    if is_asked(asked, from, to) {
-        return write_between(alloc, valid, from, to, sink, gathered);
+    if is_asked(pairs, from, to) {
+        return write_between(alloc, valid, last, from, to, sink, gathered);
     }
     Ok(())
 }
@@ -97,41 +100,52 @@ fn write_pair<K: Sink>(
 /// Hands on the lines of the ways from one network to each of others, in order.
 fn write_network<K: Sink>(
     alloc: Global,
-    asked: &Asked,
+    pairs: &Pairs,
     valid: &Valid,
+    last: &mut LastFound,
     from: &Network,
     others: &[Network],
     sink: &mut K,
     gathered: &mut TextOut,
 ) -> Result<(), WriteRefusal>
     ensures ok { OnOk result (IsOnItsWay (K.taken sink.old) (K.taken sink.new) gathered.new []
-        (gathered.old ++ flat_map (pair_text asked.now valid.now.config from.now) others.now)) }
+        (gathered.old ++ flat_map (pair_text pairs.now valid.now.config from.now) others.now)) }
     ensures front { OnErr result (TookFront (K.taken sink.old) (K.taken sink.new)
-        (gathered.old ++ flat_map (pair_text asked.now valid.now.config from.now) others.now)) }
+        (gathered.old ++ flat_map (pair_text pairs.now valid.now.config from.now) others.now)) }
     ensures cause { HasWriteCause (K.faults sink.old) (K.faults sink.new) result }
 {
     for to in others {
-        write_pair(alloc, asked, valid, from, to, sink, gathered)?;
+        write_pair(alloc, pairs, valid, last, from, to, sink, gathered)?;
     }
     Ok(())
 }
 
 /// Writes the ways that are asked for of a valid configuration.
 #[tactic(auto, unfolding(crate::specs::Lines::ways_text))]
-pub(crate) fn write_asked<K: Sink>(
+pub(crate) fn write_all_ways<K: Sink>(
     alloc: Global,
-    asked: &Asked,
+    pairs: &Pairs,
     valid: &Valid,
     sink: &mut K,
 ) -> Result<(), WriteRefusal>
-    ensures ok { OnOk result (Appends (K.taken sink.old) (K.taken sink.new) (ways_text asked.now valid.now.config)) }
-    ensures front { OnErr result (TookFront (K.taken sink.old) (K.taken sink.new) (ways_text asked.now valid.now.config)) }
+    ensures ok { OnOk result (Appends (K.taken sink.old) (K.taken sink.new) (ways_text pairs.now valid.now.config)) }
+    ensures front { OnErr result (TookFront (K.taken sink.old) (K.taken sink.new) (ways_text pairs.now valid.now.config)) }
     ensures cause { HasWriteCause (K.faults sink.old) (K.faults sink.new) result }
 {
     let networks = valid.config().networks.as_slice();
+    let mut last = LastFound::new(alloc)?;
     let mut gathered = TextOut::new(alloc);
     for from in networks {
-        write_network(alloc, asked, valid, from, networks, sink, &mut gathered)?;
+        write_network(
+            alloc,
+            pairs,
+            valid,
+            &mut last,
+            from,
+            networks,
+            sink,
+            &mut gathered,
+        )?;
     }
     write_gathered(sink, &mut gathered)
 }

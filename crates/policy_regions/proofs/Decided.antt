@@ -1,36 +1,34 @@
 -- Each tuple lies in exactly one of the regions between two networks, whose decision is the tuple's.
-use Rattle.std.proofs.Common.{◌≡◌, ℕ, ◌+◌, ◌<◌, ◌≤◌, ◌&&◌, leb, eqb, Bool, true, false, not, cond, IsTrue, List, [], ◌∷◌, ◌++◌, map, filter, flat_map, suc, length, Option, Some, None, option_map, refl, sym, ap, ◌∙◌, subst, arith}
-use Rattle.std.specs.List.{All, count_by}
+use Rattle.std.proofs.Common.{◌≡◌, ℕ, ◌≤◌, ◌&&◌, leb, eqb, Bool, true, false, not, cond, IsTrue, List, [], ◌∷◌, ◌++◌, map, flat_map, length, Option, Some, None, option_map, refl, sym, ap, ◌∙◌, subst, arith}
+use Rattle.std.specs.List.{All}
 use Rattle.std.proofs.lemmas.Bool.Decides.{nat_tests}
 use Rattle.std.proofs.lemmas.List.Elements.{All-cons}
-use Rattle.std.proofs.lemmas.List.Sums.{length-filter}
 use Rattle.ov_types.specs.Access.{in_range}
 use Rattle.ov_types.specs.First.{◌<|>◌, first_of}
 use Rattle.ov_types.specs.declared.packet.Tuple.{Tuple}
-use Rattle.ov_types.proofs.FirstLemmas.{all_head, all_tail, first_append, first_flat}
+use Rattle.ov_types.proofs.FirstLemmas.{first_append, first_flat}
 use Rattle.config_types.specs.declared.config.Config.{Config}
 use Rattle.config_types.specs.declared.config.Network.{Network}
 use Rattle.config_types.specs.declared.config.Protocol.{Protocol}
 use Rattle.config_types.specs.declared.config.Protocol.TheVariants.{Any, Number}
-use Rattle.policy_rules.specs.declared.matching.Decision.{Decision}
 use Rattle.policy_rules.specs.declared.matching.Match.{Match}
 use Rattle.policy_rules.specs.declared.numbered.NumberedRule.{NumberedRule}
 use Rattle.policy_rules.specs.Related.{fits, rules_between}
 use Rattle.policy_rules.specs.Matching.{has_protocol, speaks_both_ways, matches_forwards, matches_mirrored, match_by, deciding, decision_by, decision}
 use Rattle.policy_regions.specs.Regions.{holds, everything, common, meets, left_by}
-use Rattle.policy_regions.specs.Claims.{effect_of, effect_by, protocols_of, forward_claim, mirrored_claim, forwards, backwards, claims_of, claims_between, taken_by, undecided, carve, carved_between}
+use Rattle.policy_regions.specs.Carved.{taken_by, undecided, carve, carved_between}
+use Rattle.policy_regions.specs.Claims.{effect_of, effect_by, protocols_of, forward_claim, mirrored_claim, forwards, backwards, claims_of, claims_between}
+use Rattle.policy_regions.specs.Joining.{joined}
 use Rattle.policy_regions.specs.Parts.{IsTuple, LiesInOne, AllSay, AllDo}
 use Rattle.policy_regions.specs.declared.region.Region.{Region}
 use Rattle.policy_regions.specs.declared.region.DecidedRegion.{DecidedRegion}
-use Rattle.policy_regions.specs.declared.region.Effect.{Effect}
 use Rattle.policy_regions.specs.declared.region.Effect.TheVariants.{Drops}
 use Rattle.policy_regions.specs.declared.region.Claim.{Claim}
+use Rattle.policy_regions.proofs.Joins.{joined_same}
+use Rattle.policy_regions.proofs.Said.{Said, all_say, counted, said, said_append}
 use Rattle.policy_regions.proofs.Cuts.{marks, marks_append, common_region_holds, met, left_marks}
 
 -- what the regions say that hold a tuple
-
-abbrev pub Said : Type 0
-Said = Option Decision × Effect
 
 -- what is said of packets on which no rule decides
 abbrev nothing : Said
@@ -45,18 +43,6 @@ claimed c = (Some c.decision, c.effect)
 
 abbrev said_by : Match → Said
 said_by m = (Some (decision_by m), effect_of m.rule.rule.action)
-
-abbrev pub said : Tuple → List DecidedRegion → List (Said)
-said t [] = []
-said t (r ∷ rs) = cond (holds r.region t) ((r.decision, r.effect) ∷ said t rs) (said t rs)
-
-said_append : (t : Tuple) (xs ys : List DecidedRegion) → said t (xs ++ ys) ≡ said t xs ++ said t ys
-said_append t [] ys = refl
-said_append t (x ∷ xs) ys =
-    elim (holds x.region t) as (λ b. cond b ((x.decision, x.effect) ∷ said t (xs ++ ys)) (said t (xs ++ ys)) ≡ cond b ((x.decision, x.effect) ∷ said t xs) (said t xs) ++ said t ys) [
-      | true ↦ ap (λ (rest : List (Said)). (x.decision, x.effect) ∷ rest) (said_append t xs ys)
-      | false ↦ said_append t xs ys
-    ]
 
 said_undecided : (t : Tuple) (left : List Region) → said t (map undecided left) ≡ marks (λ r. holds r t) nothing left
 said_undecided t [] = refl
@@ -89,9 +75,9 @@ module _ (t : Tuple) (c : Claim) where
   and_is_not x true e h = ap (λ (v : Bool). cond v (x ∷ []) []) h
   and_is_not x false e h = refl
 
-  joined : {A : Type 0} (x : A) (b : Bool) (rest : List A) → cond b (x ∷ []) [] ++ rest ≡ cond b (x ∷ rest) rest
-  joined x true rest = refl
-  joined x false rest = refl
+  one_more : {A : Type 0} (x : A) (b : Bool) (rest : List A) → cond b (x ∷ []) [] ++ rest ≡ cond b (x ∷ rest) rest
+  one_more x true rest = refl
+  one_more x false rest = refl
 
   -- where the claim holds the tuple
   takes : holds c.region t ≡ true → (left : List Region) → said t (flat_map (taken_by c) left) ≡ marks H (claimed c) left
@@ -99,7 +85,7 @@ module _ (t : Tuple) (c : Claim) where
   takes h (r ∷ rs) =
       said_append t (taken_by c r) (flat_map (taken_by c) rs)
       ∙ (λ i. (taken_says t c r ∙ and_is (claimed c) (H r) (holds c.region t) h) i ++ takes h rs i)
-      ∙ joined (claimed c) (H r) (marks H (claimed c) rs)
+      ∙ one_more (claimed c) (H r) (marks H (claimed c) rs)
 
   leaves_none : {A : Type 0} (x : A) → holds c.region t ≡ true → (left : List Region) → marks H x (flat_map (left_by c.region) left) ≡ []
   leaves_none x h [] = refl
@@ -119,31 +105,51 @@ module _ (t : Tuple) (c : Claim) where
   leaves x h (r ∷ rs) =
       marks_append H x (left_by c.region r) (flat_map (left_by c.region) rs)
       ∙ (λ i. (left_marks x c.region r t ∙ and_is x (H r) (not (holds c.region t)) (ap not h)) i ++ leaves x h rs i)
-      ∙ joined x (H r) (marks H x rs)
+      ∙ one_more x (H r) (marks H x rs)
 
 -- the first claim that holds a tuple decides
 
 abbrev claim_on : Tuple → Claim → Option Said
 claim_on t c = cond (holds c.region t) (Some (claimed c)) None
 
+-- joined regions that all say one thing of a tuple
+
+marks_are : {A B : Type 0} (p : A → Bool) (x : B) (ys : List A) → All (λ z. z ≡ x) (marks p x ys)
+marks_are p x [] = λ k d lt. absurd (omega (arith, lt))
+marks_are {A} {B} p x (y ∷ ys) =
+    elim (p y) as (λ b. All (λ z. z ≡ x) (cond b (x ∷ marks p x ys) (marks p x ys))) [
+      | true ↦ All-cons (λ (z : B). z ≡ x) x (marks p x ys) refl (marks_are p x ys)
+      | false ↦ marks_are p x ys
+    ]
+
+says_joined : (t : Tuple) (x : Said) (left : List Region) (list : List DecidedRegion) → said t list ≡ marks (λ r. holds r t) x left
+    → said t (joined list) ≡ marks (λ r. holds r t) x left
+says_joined t x left list h =
+    joined_same t x list (subst (λ (ys : List Said). All (λ y. y ≡ x) ys) (sym h) (marks_are (λ (r : Region). holds r t) x left)) ∙ h
+
+says_none : (t : Tuple) (list : List DecidedRegion) → said t list ≡ [] → said t (joined list) ≡ []
+says_none t list h =
+    joined_same t nothing list (subst (λ (ys : List Said). All (λ y. y ≡ nothing) ys) (sym h) (λ k d lt. absurd (omega (arith, lt)))) ∙ h
+
 append_none : {A : Type 0} (xs ys : List A) → ys ≡ [] → xs ++ ys ≡ xs
 append_none [] ys h = h
 append_none {A} (x ∷ xs) ys h = ap (λ (rest : List A). x ∷ rest) (append_none xs ys h)
 
 carved : (t : Tuple) (cs : List Claim) (left : List Region) → said t (carve cs left) ≡ marks (λ r. holds r t) (or_nothing (first_of (claim_on t) cs)) left
-carved t [] left = said_undecided t left
+carved t [] left = says_joined t nothing left (map undecided left) (said_undecided t left)
 carved t (c ∷ cs) left =
     let H : Region → Bool = λ r. holds r t in
     let later : Option Said = first_of (claim_on t) cs in
     let rest : List Region = flat_map (left_by c.region) left in
-    said_append t (flat_map (taken_by c) left) (carve cs rest)
-    ∙ ap (λ (xs : List (Said)). said t (flat_map (taken_by c) left) ++ xs) (carved t cs rest)
+    said_append t (joined (flat_map (taken_by c) left)) (carve cs rest)
+    ∙ ap (λ (xs : List (Said)). said t (joined (flat_map (taken_by c) left)) ++ xs) (carved t cs rest)
     ∙ elim (holds c.region t) as (λ b. holds c.region t ≡ b
-    → said t (flat_map (taken_by c) left) ++ marks H (or_nothing later) rest ≡ marks H (or_nothing (cond b (Some (claimed c)) None <|> later)) left) [
+    → said t (joined (flat_map (taken_by c) left)) ++ marks H (or_nothing later) rest ≡ marks H (or_nothing (cond b (Some (claimed c)) None <|> later)) left) [
       | true ↦ λ e.
-          append_none (said t (flat_map (taken_by c) left)) (marks H (or_nothing later) rest) (leaves_none t c (or_nothing later) e left) ∙ takes t c e left
+          append_none (said t (joined (flat_map (taken_by c) left))) (marks H (or_nothing later) rest) (leaves_none t c (or_nothing later) e left)
+          ∙ says_joined t (claimed c) left (flat_map (taken_by c) left) (takes t c e left)
       | false ↦ λ e.
-          ap (λ (xs : List (Said)). xs ++ marks H (or_nothing later) rest) (takes_none t c e left) ∙ leaves t c (or_nothing later) e left
+          ap (λ (xs : List (Said)). xs ++ marks H (or_nothing later) rest) (says_none t (flat_map (taken_by c) left) (takes_none t c e left)) ∙ leaves t c (or_nothing later) e left
     ] refl
 
 -- claims and rules
@@ -245,29 +251,6 @@ pub one_says : (c : Config) (a b : Network) (t : Tuple) → IsTuple t → said t
 one_says c a b t h =
     carved t (claims_between c a b) (everything ∷ [])
     ∙ (λ i. cond (everything_holds t h i) (or_nothing (claims_decide c a b t h i) ∷ []) [])
-
--- what they say, counted
-
-as_many : (t : Tuple) (rs : List DecidedRegion) → length (filter (λ r. holds r.region t) rs) ≡ length (said t rs)
-as_many t [] = refl
-as_many t (r ∷ rs) =
-    elim (holds r.region t) as (λ b. length (cond b (r ∷ filter (λ q. holds q.region t) rs) (filter (λ q. holds q.region t) rs)) ≡ length (cond b ((r.decision, r.effect) ∷ said t rs) (said t rs))) [
-      | true ↦ ap suc (as_many t rs)
-      | false ↦ as_many t rs
-    ]
-
-pub counted : (t : Tuple) (rs : List DecidedRegion) → count_by (λ r. holds r.region t) rs ≡ length (said t rs)
-counted t rs = sym (length-filter (λ r. holds r.region t) rs) ∙ as_many t rs
-
-all_say : (d : Said) (t : Tuple) (rs : List DecidedRegion) → All (λ y. y ≡ d) (said t rs) → All (λ q. IsTrue (holds q.region t) → (q.decision, q.effect) ≡ d) rs
-all_say d t [] h = λ k x lt. absurd (omega arith)
-all_say d t (r ∷ rs) h =
-    let P : DecidedRegion → Type 0 = λ q. IsTrue (holds q.region t) → (q.decision, q.effect) ≡ d in
-    let Q : Said → Type 0 = λ y. y ≡ d in
-    elim (holds r.region t) as (λ b. holds r.region t ≡ b → All Q (cond b ((r.decision, r.effect) ∷ said t rs) (said t rs)) → All P (r ∷ rs)) [
-      | true ↦ λ e all. All-cons P r rs (λ holding. all_head Q (r.decision, r.effect) (said t rs) all) (all_say d t rs (all_tail Q (r.decision, r.effect) (said t rs) all))
-      | false ↦ λ e all. All-cons P r rs (λ holding. let two : true ≡ false = sym holding ∙ e in cc) (all_say d t rs all)
-    ] refl h
 
 pub lies_in_one : (c : Config) (a b : Network) (t : Tuple) → IsTuple t → LiesInOne t (carved_between c a b)
 lies_in_one c a b t h = counted t (carved_between c a b) ∙ ap length (one_says c a b t h)

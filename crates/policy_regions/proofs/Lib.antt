@@ -1,7 +1,11 @@
 pub mod Cuts
+pub mod Said
+pub mod Joins
 pub mod Decided
 pub mod Held
 pub mod Boxes
+pub mod Apart
+pub mod Same
 pub mod Kept
 pub mod Orders
 pub mod Overlaid

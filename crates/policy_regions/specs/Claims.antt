@@ -1,5 +1,5 @@
--- The regions between two networks: what each rule takes of what the rules before it left, and what all leave.
-use Rattle.std.specs.Prelude.{◌&&◌, true, false, List, [], ◌∷◌, ◌++◌, map, flat_map, Option, Some, None}
+-- What rules claim of the packets between two networks.
+use Rattle.std.specs.Prelude.{◌&&◌, true, false, List, [], ◌∷◌, ◌++◌, flat_map, Option, Some, None}
 use Rattle.std.specs.Prelude.{if◌then◌else◌}
 use Rattle.ov_types.specs.declared.packet.Range16.{Range16}
 use Rattle.config_types.specs.declared.config.Action.{Action}
@@ -12,11 +12,8 @@ use Rattle.policy_rules.specs.declared.matching.Match.{Match}
 use Rattle.policy_rules.specs.declared.numbered.NumberedRule.{NumberedRule}
 use Rattle.policy_rules.specs.Related.{fits, rules_between}
 use Rattle.policy_rules.specs.Matching.{speaks_both_ways}
-use Rattle.policy_regions.specs.Regions.{common, everything, left_by, meets}
 use Rattle.policy_regions.specs.declared.region.Effect.{Effect}
 use Rattle.policy_regions.specs.declared.region.Effect.TheVariants.{Passes, Drops, Leads}
-use Rattle.policy_regions.specs.declared.region.Region.{Region}
-use Rattle.policy_regions.specs.declared.region.DecidedRegion.{DecidedRegion}
 use Rattle.policy_regions.specs.declared.region.Claim.{Claim}
 
 -- what an action does with packets
@@ -74,23 +71,3 @@ claims_of from to r = forwards from to r ++ backwards from to r
 -- the claims of the rules between two networks, in order
 abbrev pub claims_between : Config → Network → Network → List Claim
 claims_between c from to = flat_map (claims_of from to) (rules_between c from to)
-
--- what a claim takes of a region
-abbrev pub taken_by : Claim → Region → List DecidedRegion
-taken_by claim r =
-    if meets r claim.region
-    then record { region = common r claim.region; decision = Some claim.decision; effect = claim.effect } ∷ []
-    else []
-
--- a region on which no rule decides
-abbrev pub undecided : Region → DecidedRegion
-undecided r = record { region = r; decision = None; effect = Drops }
-
--- of what is left each claim takes its part, and on what is left at the end no rule decides
-abbrev pub carve : List Claim → List Region → List DecidedRegion
-carve [] left = map undecided left
-carve (c ∷ cs) left = flat_map (taken_by c) left ++ carve cs (flat_map (left_by c.region) left)
-
--- what the claims between two networks make of the region of all tuples
-abbrev pub carved_between : Config → Network → Network → List DecidedRegion
-carved_between c from to = carve (claims_between c from to) (everything ∷ [])

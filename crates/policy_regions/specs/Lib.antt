@@ -1,5 +1,9 @@
 pub mod Regions
 pub mod Claims
+pub mod Joining
+pub mod Carved
 pub mod Joined
+pub mod Sameness
+pub mod Touching
 pub mod Parts
 pub mod Overlay

@@ -3,9 +3,11 @@ ghost use Rattle.std.specs.Prelude.{◌≡◌, nat_le, length, IfOk, IsTrue};
 ghost use Rattle.std.specs.List.{list_all};
 ghost use Rattle.ov_types.specs.declared.packet.Tuple.{Tuple};
 ghost use Rattle.policy_rules.specs.Matching.{deciding, decision};
-ghost use Rattle.policy_regions.specs.Claims.{carved_between, claims_between, effect_by};
+ghost use Rattle.policy_regions.specs.Carved.{carved_between};
+ghost use Rattle.policy_regions.specs.Claims.{claims_between, effect_by};
 ghost use Rattle.policy_regions.specs.Joined.{regions_between};
 ghost use Rattle.policy_regions.specs.Parts.{IsTuple, LiesInOne, AllSay, AllDo};
+ghost use Rattle.policy_regions.specs.Touching.{IsJoined};
 
 use crate::carving::carve;
 use crate::claims::claims_of;
@@ -17,7 +19,7 @@ use ov_types::{Items, NoMemory};
 use std::alloc::Global;
 
 /// The claims of the rules between two networks.
-fn claims_between(
+pub(crate) fn claims_between(
     alloc: Global,
     config: &Config,
     from: &Network,
@@ -45,7 +47,7 @@ fn carved_between(
 }
 
 /// What is decided of packets from one network to another, as regions: each tuple lies in exactly one, and its
-/// decision is the region's.
+/// decision is the region's. No two that say the same make one box.
 pub fn regions_between(
     alloc: Global,
     config: &Config,
@@ -59,6 +61,7 @@ pub fn regions_between(
         → AllSay (decision config.now from.now to.now t) t list) }
     ensures effect { IfOk result (λ list. (t : Tuple) → IsTuple t
         → AllDo (effect_by (deciding config.now from.now to.now t)) t list) }
+    ensures joined { IfOk result (λ list. IsJoined list) }
 {
     let carved = carved_between(alloc, config, from, to)?;
     let regions = joined(alloc, carved)?;

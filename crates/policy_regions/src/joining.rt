@@ -1,16 +1,17 @@
 //! Regions that touch and say the same, as one where they make one box.
-ghost use Rattle.std.specs.Prelude.{◌≡◌, ◌&&◌, ◌++◌, ◌∷◌, [], List, IfOk, OnOk};
+ghost use Rattle.std.specs.Prelude.{◌≡◌, ◌&&◌, ◌++◌, ◌∷◌, [], List, IfOk, OnOk, is_none};
+ghost use Rattle.std.specs.List.{list_all};
 ghost use Rattle.policy_regions.specs.declared.region.DecidedRegion.{DecidedRegion};
 ghost use Rattle.ov_types.specs.First.{◌<|>◌, same_name};
-ghost use Rattle.policy_regions.specs.Joined.{all_among, among, both_ranges, box_of, goes_on, joined, joint_box};
-ghost use Rattle.policy_regions.specs.Joined.{same_decision, same_effect, same_range, say_the_same};
+ghost use Rattle.policy_regions.specs.Joining.{all_among, among, both_ranges, box_of, goes_on, joined, joint_box};
+ghost use Rattle.policy_regions.specs.Joining.{same_decision, same_effect, same_range, say_the_same};
 
 use crate::region::{DecidedRegion, Effect, Region};
 use ov_types::{NoMemory, Range16};
 use policy_rules::Decision;
 use std::alloc::Global;
 
-fn is_same_decision(decision: &Option<Decision>, after: &Option<Decision>) -> bool
+pub(crate) fn is_same_decision(decision: &Option<Decision>, after: &Option<Decision>) -> bool
     ensures { result ≡ same_decision decision.now after.now }
 {
     match (decision, after) {
@@ -24,7 +25,7 @@ fn is_same_decision(decision: &Option<Decision>, after: &Option<Decision>) -> bo
     }
 }
 
-fn is_same_effect(effect: &Effect, after: &Effect) -> bool
+pub(crate) fn is_same_effect(effect: &Effect, after: &Effect) -> bool
     ensures { result ≡ same_effect effect.now after.now }
 {
     match (effect, after) {
@@ -34,7 +35,7 @@ fn is_same_effect(effect: &Effect, after: &Effect) -> bool
     }
 }
 
-fn is_same_range(range: &Range16, after: &Range16) -> bool
+pub(crate) fn is_same_range(range: &Range16, after: &Range16) -> bool
     ensures { result ≡ same_range range.now after.now }
 {
     range.lo == after.lo && range.hi == after.hi
@@ -159,7 +160,7 @@ fn join_or_push(
 }
 
 /// A region among others: joined with those of them that it makes one box with, and behind the rest.
-fn among(
+fn joined_among(
     alloc: Global,
     region: &DecidedRegion,
     others: &[DecidedRegion],
@@ -175,13 +176,38 @@ fn among(
     Ok(apart)
 }
 
+/// Whether a region makes one box with none of others.
+fn stays_apart(region: &DecidedRegion, others: &[DecidedRegion]) -> bool
+    ensures { result ≡ list_all (λ s. is_none (joint_box region.now s)) others.now }
+{
+    others
+        .iter()
+        .all(|other| joint_box(region, other).is_none())
+}
+
+/// Puts a region among others.
+fn among(
+    alloc: Global,
+    region: &DecidedRegion,
+    others: Vec<DecidedRegion>,
+) -> Result<Vec<DecidedRegion>, NoMemory>
+    ensures { IfOk result (λ v. v.items ≡ among region.now others.items) }
+{
+    if stays_apart(region, &others) {
+        let mut apart = others;
+        apart.push(*region)?;
+        return Ok(apart);
+    }
+    joined_among(alloc, region, &others)
+}
+
 /// Regions among one another.
 fn all_among(alloc: Global, regions: &[DecidedRegion]) -> Result<Vec<DecidedRegion>, NoMemory>
     ensures { IfOk result (λ v. v.items ≡ all_among [] regions.now) }
 {
     let mut done = Vec::new(alloc);
     for region in regions {
-        done = among(alloc, region, &done)?;
+        done = among(alloc, region, done)?;
     }
     Ok(done)
 }

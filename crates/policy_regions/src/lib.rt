@@ -6,11 +6,13 @@ mod between;
 mod carving;
 mod claims;
 mod joining;
+mod last_found;
 pub mod laws;
 mod overlays;
 mod policies;
 mod region;
 
 pub use between::regions_between;
+pub use last_found::LastFound;
 pub use overlays::{Compared, overlay};
 pub use region::{DecidedRegion, Effect, Region};

@@ -9,12 +9,12 @@ pub returns-in_err-write_pair-clause-front : goal.returns-in_err-write_pair-clau
 returns-in_err-write_pair-clause-front g c =
     let left = drop_at c.args.others.now c.loop-to.to-index c.to-item.result c.loop-to-test.true c.to-item.is in
     on_err c.from_residual.result _ (way_breaks _ _ _ _ _ _ _ _ c.loop-to.invariant.way
-    (ap (flat_map (pair_text c.args.asked.now c.args.valid.now.config c.args.from.now)) left) c.in_err-write_pair.ensures.front)
+    (ap (flat_map (pair_text c.args.pairs.now c.args.valid.now.config c.args.from.now)) left) c.in_err-write_pair.ensures.front)
 
 pub loop-to-preserved : goal.loop-to-preserved
 loop-to-preserved g c =
     let left = drop_at c.args.others.now c.loop-to.to-index c.to-item.result c.loop-to-test.true c.to-item.is in
     record {
-      way = way_goes_on _ _ _ _ _ _ _ _ _ c.loop-to.invariant.way (ap (flat_map (pair_text c.args.asked.now c.args.valid.now.config c.args.from.now)) left) c.in_ok-write_pair.ensures.ok;
+      way = way_goes_on _ _ _ _ _ _ _ _ _ c.loop-to.invariant.way (ap (flat_map (pair_text c.args.pairs.now c.args.valid.now.config c.args.from.now)) left) c.in_ok-write_pair.ensures.ok;
       kept = c.in_ok-write_pair.ensures.cause ∙ c.loop-to.invariant.kept;
     }

@@ -6,7 +6,7 @@ use Rattle.inspect_answers.proofs.writing.write_network.Given as goal
 
 abbrev pub invariant-loop-to : goal.invariant-loop-to
 invariant-loop-to g l = record {
-  way : IsOnItsWay (g.K.Sink.taken l.fn.sink) (g.K.Sink.taken l.sink) l.gathered (flat_map (pair_text l.asked l.valid.config l.from) (drop l.to-index l.others))
-      (l.fn.gathered ++ flat_map (pair_text l.asked l.valid.config l.from) l.others);
+  way : IsOnItsWay (g.K.Sink.taken l.fn.sink) (g.K.Sink.taken l.sink) l.gathered (flat_map (pair_text l.pairs l.valid.config l.from) (drop l.to-index l.others))
+      (l.fn.gathered ++ flat_map (pair_text l.pairs l.valid.config l.from) l.others);
   kept : g.K.Sink.faults l.sink ≡ g.K.Sink.faults l.fn.sink;
 }

@@ -1,5 +1,5 @@
 use Rattle.std.proofs.Common.{◌≡◌, [], drop}
-use Rattle.policy_regions.specs.Joined.{all_among}
+use Rattle.policy_regions.specs.Joining.{all_among}
 use Rattle.policy_regions.proofs.joining.all_among.Given as goal
 
 abbrev pub invariant-loop-region : goal.invariant-loop-region

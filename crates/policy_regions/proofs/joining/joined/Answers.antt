@@ -1,5 +1,5 @@
 use Rattle.std.proofs.Common.{◌≡◌, ◌+◌, ◌-◌, ◌≤◌, ◌<◌, length, List, [], ap, sym, ◌∙◌, arith}
-use Rattle.policy_regions.specs.Joined.{all_among, joined, joined_within}
+use Rattle.policy_regions.specs.Joining.{all_among, joined, joined_within}
 use Rattle.policy_regions.specs.declared.region.DecidedRegion.{DecidedRegion}
 use Rattle.policy_regions.proofs.Turns.{goes_on, stays}
 use Rattle.policy_regions.proofs.joining.joined.Goals as goal

@@ -1,5 +1,5 @@
 use Rattle.std.proofs.Common.{◌≡◌, ◌-◌}
-use Rattle.policy_regions.specs.Joined.{joined, joined_within}
+use Rattle.policy_regions.specs.Joining.{joined, joined_within}
 use Rattle.policy_regions.proofs.joining.joined.Given as goal
 
 abbrev pub invariant-loop-turn : goal.invariant-loop-turn

@@ -1,0 +1,83 @@
+-- What is taken of the answer of `expect` is as it promises.
+use Rattle.std.proofs.Common.{◌≡◌, ◌<◌, ◌↔◌, ◌+◌, ◌==◌, ℕ, zero, suc, Bool, true, false, cond, not, List, [], ◌∷◌, ◌++◌, Option, Some, None, Result, Ok, Err}
+use Rattle.std.proofs.Common.{refl, sym, ap, ◌∙◌, subst, arith, inl, inr, length, flat_map}
+use Rattle.std.specs.Prelude.{◌&&◌, count_by, slice_get, slice_index_or}
+use Rattle.std.specs.List.{All, AllPairs, Any, Contains, list_all}
+use Rattle.std.specs.Io.KnownBytes.{Appends}
+use Rattle.std.proofs.lemmas.Grind.{common_steps}
+use Rattle.std.proofs.lemmas.List.Elements.{All-contains, All-contains_itself, Contains-append_cases, Contains-append_left, Contains-append_right}
+use Rattle.std.proofs.lemmas.List.Kept.{AllPairs-cons}
+use Rattle.std.proofs.lemmas.List.Sums.{AllPass-from_list_all, list_all-from_AllPass, sum_by-cons}
+use Rattle.serde_json.specs.Data.{Data}
+use Rattle.ov_json.specs.Json.{json_of}
+use Rattle.ov_types.proofs.FirstLemmas.{any_of, contains_cases, contains_here, contains_later}
+use Rattle.config_types.specs.declared.config.Config.{Config}
+use Rattle.config_model.specs.Faults.{Fault}
+use Rattle.config_check.specs.Rules.{first_broken}
+use Rattle.config_check.specs.declared.refusal.Refusal.{Refusal}
+use Rattle.reach_plain.specs.Reachability.{reachability}
+use Rattle.inspect_answers.specs.Answers.{Answer, IsAnswer, WasGiven, answer_unless, expect_answer, expect_reading, expect_value, expected_answer, of_json}
+use Rattle.inspect_answers.specs.Expectations.{ExpectInput, Expectation, expect_at}
+use Rattle.inspect_answers.specs.Expecting.{all_met, comes_so, counts_line, expect_text, unmet_count, unmet_from, unmet_line, unmet_text}
+use Rattle.inspect_answers.specs.Runs.{status_of}
+use Rattle.inspect_answers.specs.Unmet.{ComesSo, IsExpectedIn, IsUnmet, TookExpected, Unmet, line_text}
+use Rattle.inspect_answers.specs.declared.top.Status.{Status}
+use Rattle.inspect_answers.specs.declared.top.Status.TheVariants as Ended
+use Rattle.inspect_answers.specs.declared.verdict.Verdict.{Verdict}
+use Rattle.inspect_answers.specs.declared.verdict.Verdict.TheVariants as Found
+use Rattle.inspect_answers.proofs.Otherwise.{count_of_lines, differs_where, done_where, exact, in_order, lines_from, text_of_lines}
+
+-- the input
+
+-- a valid configuration and expectations were read, and what is said of them is the answer
+record IsRead (octets : List ℕ) : Type 0 where
+  pub read : ExpectInput
+  pub written : IsExpectedIn octets read
+  pub valid : first_broken read.input.topology read.input.config ≡ None
+  pub is : expect_answer octets ≡ expected_answer read.input.config read.packets
+
+by_answer : (broken : Option Refusal) (answer : Answer) → IsAnswer (answer_unless broken answer).verdict
+    → (broken ≡ None) × (answer_unless broken answer ≡ answer)
+by_answer (Some r) answer h = absurd h
+by_answer None answer h = (refl, refl)
+
+by_reading : (octets : List ℕ) (d : Data) → json_of octets ≡ Some d → (r : Result ExpectInput Fault) → expect_at [] d ≡ r
+    → expect_answer octets ≡ expect_reading r → IsAnswer (expect_reading r).verdict → IsRead octets
+by_reading octets d e (Err f) read is h = absurd h
+by_reading octets d e (Ok r) read is h =
+    let parts = by_answer (first_broken r.input.topology r.input.config) (expected_answer r.input.config r.packets) h in
+    record { read = r; written = (d, e, read); valid = parts.0; is = is ∙ parts.1 }
+
+by_json : (octets : List ℕ) (o : Option Data) → json_of octets ≡ o → expect_answer octets ≡ of_json expect_value o
+    → IsAnswer (of_json expect_value o).verdict → IsRead octets
+unfolding expect_value
+by_json octets None e is h = absurd h
+by_json octets (Some d) e is h = by_reading octets d e (expect_at [] d) refl is h
+
+is_read : (octets : List ℕ) → IsAnswer (expect_answer octets).verdict → IsRead octets
+unfolding expect_answer
+is_read octets h = by_json octets (json_of octets) refl refl h
+
+pub took_expected : (octets : List ℕ) (verdict : Verdict) (old new : Option (List ℕ)) → WasGiven (expect_answer octets) verdict old new
+    → IsAnswer verdict → TookExpected (status_of verdict) octets old new
+unfolding expect_text
+took_expected octets verdict old new given answers =
+    let good = is_read octets (subst IsAnswer given.is answers) in
+    let c = good.read.input.config in
+    let es = good.read.packets in
+    let text : (expect_answer octets).text ≡ flat_map line_text (lines_from c 1 es) ++ counts_line (length es) (length (lines_from c 1 es)) =
+    ap (λ (a : Answer). a.text) good.is
+    ∙ ap (λ (t : List ℕ). t ++ counts_line (length es) (unmet_count c es)) (text_of_lines c 1 es)
+    ∙ ap (λ (n : ℕ). flat_map line_text (lines_from c 1 es) ++ counts_line (length es) n) (count_of_lines c 1 es) in
+    let verdict_is : cond (all_met c es) Found.Good Found.Differs ≡ verdict = sym (given.is ∙ ap (λ (a : Answer). a.verdict) good.is) in
+    record {
+      read = good.read;
+      written = good.written;
+      valid = good.valid;
+      lines = lines_from c 1 es;
+      taken = subst (λ (t : List ℕ). Appends old new t) text given.taken;
+      exact = exact c es;
+      in_order = in_order c 1 es;
+      met = subst (λ (v : Verdict). (status_of v ≡ Ended.Done) ↔ All (ComesSo c) es) verdict_is (done_where c es (all_met c es) refl);
+      unmet = subst (λ (v : Verdict). (status_of v ≡ Ended.Differs) ↔ Any (λ e. ¬ ComesSo c e) es) verdict_is (differs_where c es (all_met c es) refl);
+    }

@@ -1,0 +1,130 @@
+-- The lines of what differs between two configurations, and what is answered to two documents.
+use Rattle.std.specs.Prelude.{◌≡◌, ◌≢◌, ℕ, List, [], ◌∷◌, ◌++◌, codes, decimal, flat_map, Option, Some, None, Result, Ok, Err, ⊤}
+use Rattle.std.specs.Io.KnownBytes.{Appends}
+use Rattle.serde_json.specs.Data.{Data}
+use Rattle.ov_json.specs.Json.{json_of}
+use Rattle.ov_types.specs.Rows.{rule_text}
+use Rattle.ov_types.specs.Texts.{address_text, prefix_text}
+use Rattle.config_types.specs.declared.config.Config.{Config}
+use Rattle.config_model.specs.declared.input.CompileInput.{CompileInput}
+use Rattle.config_model.specs.Faults.{Fault}
+use Rattle.config_model.specs.Input.{compile_at}
+use Rattle.config_check.specs.Rules.{first_broken}
+use Rattle.config_check.specs.declared.refusal.Refusal.{Refusal}
+use Rattle.report.specs.Outcomes.{services_text}
+use Rattle.compile_answers.specs.Answers.{DocumentAnswer, answer_bad, answer_good, answer_refused, of_json}
+use Rattle.compile_answers.specs.declared.unfit.Reception.{Reception}
+use Rattle.compile_answers.specs.declared.unfit.Reception.TheVariants.{Good}
+use Rattle.inspect_answers.specs.Fates.{all_differences}
+use Rattle.inspect_answers.specs.Lines.{region_text}
+use Rattle.inspect_answers.specs.Objects.{gone}
+use Rattle.inspect_answers.specs.declared.diffing.Comparison.{Comparison}
+use Rattle.inspect_answers.specs.declared.diffing.Comparison.TheVariants as Found
+use Rattle.inspect_answers.specs.declared.fate.Difference.{Difference}
+use Rattle.inspect_answers.specs.declared.fate.Fate.{Fate}
+use Rattle.inspect_answers.specs.declared.fate.Fate.TheVariants.{Passed, Through, Denied, Unmatched}
+use Rattle.inspect_answers.specs.declared.objects.Object.{Object}
+use Rattle.inspect_answers.specs.declared.objects.Object.TheVariants as Is
+
+-- an object, as it is printed
+abbrev pub object_text : Object → List ℕ
+object_text (Is.Network name) = codes "network " ++ name
+object_text (Is.Subnet network prefix) = codes "subnet " ++ (network ++ (codes " " ++ prefix_text prefix))
+object_text (Is.Port number network address node) =
+    codes "port " ++ (decimal number.0 ++ (codes " network " ++ (network ++ (codes " address " ++ (address_text address.0
+    ++ (codes " node " ++ node))))))
+object_text (Is.Service number node) = codes "service " ++ (decimal number.0 ++ (codes " node " ++ node))
+
+-- an object that one of two configurations has alone: it went, or it came
+unfoldable pub went_line : Object → List ℕ
+went_line o = codes "went " ++ (object_text o ++ (10 ∷ []))
+
+unfoldable pub came_line : Object → List ℕ
+came_line o = codes "came " ++ (object_text o ++ (10 ∷ []))
+
+-- what becomes of packets, as it is printed: `-` stands where no rule decides
+abbrev pub fate_text : Fate → List ℕ
+fate_text (Passed rule) = codes "passed " ++ rule_text rule
+fate_text (Through rule services) = codes "through " ++ (rule_text rule ++ (codes " services " ++ services_text services))
+fate_text (Denied rule) = codes "denied " ++ rule_text rule
+fate_text Unmatched = codes "denied -"
+
+-- a difference: the networks, the region, what became of its packets and what becomes
+unfoldable pub difference_line : Difference → List ℕ
+difference_line x =
+    x.from ++ (codes " > " ++ (x.to ++ (codes " " ++ (region_text x.region ++ (codes ": " ++ (fate_text x.was
+    ++ (codes " => " ++ (fate_text x.becomes ++ (10 ∷ [])))))))))
+
+abbrev pub lists_text : List Object → List Object → List Difference → List ℕ
+lists_text went came differences =
+    flat_map went_line went ++ (flat_map came_line came ++ flat_map difference_line differences)
+
+-- what `inspect diff` writes of two valid configurations: what went, what came, and then the differences
+unfoldable pub diff_text : Config → Config → List ℕ
+diff_text c d = lists_text (gone c d) (gone d c) (all_differences c d)
+
+-- a broken rule comes first
+abbrev pub document_unless : Option Refusal → DocumentAnswer → DocumentAnswer
+document_unless (Some r) answer = answer_refused r
+document_unless None answer = answer
+
+-- what is answered to a topology and a configuration that were read, or not, where the configuration is valid
+abbrev pub reading : (Config → DocumentAnswer) → Result CompileInput Fault → DocumentAnswer
+reading answer (Err f) = answer_bad f
+reading answer (Ok p) = document_unless (first_broken p.topology p.config) (answer p.config)
+
+abbrev pub to_value : (Config → DocumentAnswer) → Data → DocumentAnswer
+to_value answer d = reading answer (compile_at [] d)
+
+-- what is answered to a document of which the configuration is valid, or the one line of what is not fit
+unfoldable pub to_document : (Config → DocumentAnswer) → List ℕ → DocumentAnswer
+to_document answer octets = of_json (to_value answer) (json_of octets)
+
+-- what `inspect diff` answers to two documents: the first of them that is not fit, or what differs
+abbrev pub diff_answer : List ℕ → List ℕ → DocumentAnswer
+diff_answer before after = to_document (λ c. to_document (λ d. answer_good (diff_text c d)) after) before
+
+-- what two documents are found to be says whether a text has a line
+abbrev pub SaysWhether : Comparison → List ℕ → Type 0
+SaysWhether Found.Same text = text ≡ []
+SaysWhether Found.Differs text = text ≢ []
+SaysWhether (Found.UnfitBefore reception) text = ⊥
+SaysWhether (Found.UnfitAfter reception) text = ⊥
+
+-- what two documents are found to be is the verdict of an answer, with or without a line
+abbrev pub Tells : Comparison → DocumentAnswer → Type 0
+Tells Found.Same answer = (answer.verdict ≡ Good) × (answer.text ≡ [])
+Tells Found.Differs answer = (answer.verdict ≡ Good) × (answer.text ≢ [])
+Tells (Found.UnfitBefore reception) answer = (answer.verdict ≡ reception) × (reception ≢ Good)
+Tells (Found.UnfitAfter reception) answer = (answer.verdict ≡ reception) × (reception ≢ Good)
+
+-- what was found was told by an answer, whose text was taken whole
+pub record WasSaid (answer : DocumentAnswer) (found : Comparison) (old new : Option (List ℕ)) : Type 0 where
+  pub tells : Tells found answer
+  pub taken : Appends old new answer.text
+
+abbrev pub IsOfBefore : Comparison → Type 0
+IsOfBefore (Found.UnfitBefore reception) = ⊤
+IsOfBefore _ = ⊥
+
+abbrev pub IsOfAfter : Comparison → Type 0
+IsOfAfter (Found.UnfitAfter reception) = ⊤
+IsOfAfter _ = ⊥
+
+-- what is found of a document alone
+abbrev pub found_alone : List ℕ → Reception
+found_alone octets = (to_document (λ c. answer_good []) octets).verdict
+
+-- the document after is fit, or found to be this
+abbrev pub IsWhichAfter : Comparison → List ℕ → Type 0
+IsWhichAfter Found.Same after = found_alone after ≡ Good
+IsWhichAfter Found.Differs after = found_alone after ≡ Good
+IsWhichAfter (Found.UnfitBefore reception) after = ⊥
+IsWhichAfter (Found.UnfitAfter reception) after = found_alone after ≡ reception
+
+-- the document that is not fit is the one before, or the one after where the one before is fit
+abbrev pub IsWhich : Comparison → List ℕ → List ℕ → Type 0
+IsWhich Found.Same before after = (found_alone before ≡ Good) × (found_alone after ≡ Good)
+IsWhich Found.Differs before after = (found_alone before ≡ Good) × (found_alone after ≡ Good)
+IsWhich (Found.UnfitBefore reception) before after = found_alone before ≡ reception
+IsWhich (Found.UnfitAfter reception) before after = (found_alone before ≡ Good) × (found_alone after ≡ reception)

@@ -1,0 +1,242 @@
+//! What is answered to two documents, one before a change and one after.
+ghost use Rattle.std.specs.Prelude.{◌≡◌, ◌++◌, [], IfOk, IfErr, OnOk, OnErr};
+ghost use Rattle.std.specs.Io.KnownBytes.{Appends};
+ghost use Rattle.serde_json.specs.View.{view};
+ghost use Rattle.ov_io.specs.Inputs.{TookFront};
+ghost use Rattle.ov_io.specs.Pieces.{HasWriteCause, IsOnItsWay};
+ghost use Rattle.config_types.specs.declared.config.Config.{Config as Configuration};
+ghost use Rattle.compile_answers.specs.Answers.{DocumentAnswer, IsAnswered, answer_good};
+ghost use Rattle.inspect_answers.specs.Differences.{IsOfAfter, IsOfBefore, IsWhich, IsWhichAfter, SaysWhether, WasSaid};
+ghost use Rattle.inspect_answers.specs.Differences.{diff_answer, diff_text, lists_text, to_document, to_value};
+ghost use Rattle.inspect_answers.specs.Fates.{all_differences};
+ghost use Rattle.inspect_answers.specs.Objects.{gone};
+
+use crate::difference_lines::{CameLines, DifferenceLines, WentLines};
+use crate::differences::all_differences;
+use crate::fate::Difference;
+use crate::objects::{Object, gone};
+use crate::writing::write_each;
+use compile_answers::{Reception, Unfit, valid_of, write_unfit};
+use config_check::Valid;
+use config_model::{ReadRefusal, read_compile};
+use ov_io::{Sink, TextOut, WriteRefusal, write_gathered};
+use ov_json::value_of;
+use ov_types::NoMemory;
+use serde_json::Value;
+use std::alloc::Global;
+
+/// What two documents are found to be.
+#[derive(Clone, Copy)]
+pub enum Comparison {
+    /// Both are fit, and there is no line.
+    Same,
+    Differs,
+    UnfitBefore(Reception),
+    UnfitAfter(Reception),
+}
+
+/// The valid configuration of a value.
+#[tactic(auto, using(crate::proofs::Unfitting::document_unfit_anyway))]
+fn valid_in(alloc: Global, value: &Value) -> Result<Valid, Unfit>
+    ensures fit { IfOk result (λ valid. (answer : Configuration → DocumentAnswer)
+        → to_value answer (view value.now) ≡ answer valid.config) }
+    ensures unfit { IfErr result (λ unfit. (answer : Configuration → DocumentAnswer)
+        → IsAnswered unfit (to_value answer (view value.now))) }
+{
+    match read_compile(alloc, value) {
+        Ok(input) => valid_of(alloc, input),
+        Err(ReadRefusal::Doc(fault)) => Err(Unfit::BadDocument(fault)),
+        Err(ReadRefusal::NoMemory) => Err(Unfit::NoMemory),
+    }
+}
+
+/// The valid configuration of a document.
+#[tactic(auto, unfolding(crate::specs::Differences::to_document))]
+fn valid_from(alloc: Global, octets: &[u8]) -> Result<Valid, Unfit>
+    ensures fit { IfOk result (λ valid. (answer : Configuration → DocumentAnswer)
+        → to_document answer octets.now ≡ answer valid.config) }
+    ensures unfit { IfErr result (λ unfit. (answer : Configuration → DocumentAnswer)
+        → IsAnswered unfit (to_document answer octets.now)) }
+{
+    match value_of(alloc, octets) {
+        Ok(Some(value)) => valid_in(alloc, &value),
+        Ok(None) => Err(Unfit::NotJson),
+        Err(NoMemory) => Err(Unfit::NoMemory),
+    }
+}
+
+/// What differs between two configurations: the objects that went and those that came, and then what becomes of packets.
+#[derive(Drop)]
+struct Found {
+    went: Vec<Object>,
+    came: Vec<Object>,
+    differences: Vec<Difference>,
+}
+
+fn find(alloc: Global, before: &Valid, after: &Valid) -> Result<Found, NoMemory>
+    ensures went { IfOk result (λ found. found.went.items ≡ gone before.now.config after.now.config) }
+    ensures came { IfOk result (λ found. found.came.items ≡ gone after.now.config before.now.config) }
+    ensures differences { IfOk result (λ found. found.differences.items
+        ≡ all_differences before.now.config after.now.config) }
+{
+    let went = gone(alloc, before.config(), after.config())?;
+    let came = gone(alloc, after.config(), before.config())?;
+    let differences = all_differences(alloc, before, after)?;
+    Ok(Found {
+        went,
+        came,
+        differences,
+    })
+}
+
+/// Hands on the lines of what went, of what came, and of differences.
+fn write_lists<K: Sink>(
+    alloc: Global,
+    went: &[Object],
+    came: &[Object],
+    differences: &[Difference],
+    sink: &mut K,
+    gathered: &mut TextOut,
+) -> Result<(), WriteRefusal>
+    ensures ok { OnOk result (IsOnItsWay (K.taken sink.old) (K.taken sink.new) gathered.new []
+        (gathered.old ++ lists_text went.now came.now differences.now)) }
+    ensures front { OnErr result (TookFront (K.taken sink.old) (K.taken sink.new)
+        (gathered.old ++ lists_text went.now came.now differences.now)) }
+    ensures cause { HasWriteCause (K.faults sink.old) (K.faults sink.new) result }
+{
+    write_each(alloc, &WentLines, went, sink, gathered)?;
+    write_each(alloc, &CameLines, came, sink, gathered)?;
+    write_each(alloc, &DifferenceLines, differences, sink, gathered)
+}
+
+/// Writes what was found.
+fn write_found<K: Sink>(alloc: Global, found: &Found, sink: &mut K) -> Result<(), WriteRefusal>
+    ensures ok { OnOk result (Appends (K.taken sink.old) (K.taken sink.new)
+        (lists_text found.now.went.items found.now.came.items found.now.differences.items)) }
+    ensures front { OnErr result (TookFront (K.taken sink.old) (K.taken sink.new)
+        (lists_text found.now.went.items found.now.came.items found.now.differences.items)) }
+    ensures cause { HasWriteCause (K.faults sink.old) (K.faults sink.new) result }
+{
+    let mut gathered = TextOut::new(alloc);
+    write_lists(
+        alloc,
+        &found.went,
+        &found.came,
+        &found.differences,
+        sink,
+        &mut gathered,
+    )?;
+    write_gathered(sink, &mut gathered)
+}
+
+#[tactic(auto, using(crate::proofs::SomeLine::no_went, crate::proofs::SomeLine::no_came, crate::proofs::SomeLine::no_difference))]
+fn comparison_of(found: &Found) -> Comparison
+    ensures { SaysWhether result (lists_text found.now.went.items found.now.came.items found.now.differences.items) }
+{
+    if !found.went.is_empty() {
+        return Comparison::Differs;
+    }
+    if !found.came.is_empty() {
+        return Comparison::Differs;
+    }
+    if !found.differences.is_empty() {
+        return Comparison::Differs;
+    }
+    Comparison::Same
+}
+
+/// Writes what differs between two valid configurations.
+#[tactic(auto, unfolding(crate::specs::Differences::diff_text), using(ov_io::proofs::PieceLemmas::took_nothing))]
+fn write_differences<K: Sink>(
+    alloc: Global,
+    before: &Valid,
+    after: &Valid,
+    sink: &mut K,
+) -> Result<Comparison, WriteRefusal>
+    ensures ok { OnOk result (Appends (K.taken sink.old) (K.taken sink.new)
+        (diff_text before.now.config after.now.config)) }
+    ensures says { IfOk result (λ found. SaysWhether found (diff_text before.now.config after.now.config)) }
+    ensures front { OnErr result (TookFront (K.taken sink.old) (K.taken sink.new)
+        (diff_text before.now.config after.now.config)) }
+    ensures cause { HasWriteCause (K.faults sink.old) (K.faults sink.new) result }
+{
+    let found = find(alloc, before, after)?;
+    write_found(alloc, &found, sink)?;
+    Ok(comparison_of(&found))
+}
+
+/// Writes the one line of the document before, which is not fit.
+fn write_unfit_before<K: Sink>(
+    alloc: Global,
+    unfit: Unfit,
+    sink: &mut K,
+) -> Result<Comparison, WriteRefusal>
+    ensures given { (answer : DocumentAnswer) → IsAnswered unfit answer
+        → IfOk result (λ found. WasSaid answer found (K.taken sink.old) (K.taken sink.new)) }
+    ensures front { (answer : DocumentAnswer) → IsAnswered unfit answer
+        → OnErr result (TookFront (K.taken sink.old) (K.taken sink.new) answer.text) }
+    ensures cause { HasWriteCause (K.faults sink.old) (K.faults sink.new) result }
+    ensures before { IfOk result (λ found. IsOfBefore found) }
+{
+    let reception = write_unfit(alloc, unfit, sink)?;
+    Ok(Comparison::UnfitBefore(reception))
+}
+
+/// Writes the one line of the document after, which is not fit.
+fn write_unfit_after<K: Sink>(
+    alloc: Global,
+    unfit: Unfit,
+    sink: &mut K,
+) -> Result<Comparison, WriteRefusal>
+    ensures given { (answer : DocumentAnswer) → IsAnswered unfit answer
+        → IfOk result (λ found. WasSaid answer found (K.taken sink.old) (K.taken sink.new)) }
+    ensures front { (answer : DocumentAnswer) → IsAnswered unfit answer
+        → OnErr result (TookFront (K.taken sink.old) (K.taken sink.new) answer.text) }
+    ensures cause { HasWriteCause (K.faults sink.old) (K.faults sink.new) result }
+    ensures after { IfOk result (λ found. IsOfAfter found) }
+{
+    let reception = write_unfit(alloc, unfit, sink)?;
+    Ok(Comparison::UnfitAfter(reception))
+}
+
+/// Writes what is answered to a document that is compared with a valid configuration before.
+fn answer_after<K: Sink>(
+    alloc: Global,
+    before: &Valid,
+    after: &[u8],
+    sink: &mut K,
+) -> Result<Comparison, WriteRefusal>
+    ensures given { IfOk result (λ found. WasSaid
+        (to_document (λ d. answer_good (diff_text before.now.config d)) after.now) found
+        (K.taken sink.old) (K.taken sink.new)) }
+    ensures which { IfOk result (λ found. IsWhichAfter found after.now) }
+    ensures front { OnErr result (TookFront (K.taken sink.old) (K.taken sink.new)
+        (to_document (λ d. answer_good (diff_text before.now.config d)) after.now).text) }
+    ensures cause { HasWriteCause (K.faults sink.old) (K.faults sink.new) result }
+{
+    match valid_from(alloc, after) {
+        Ok(valid) => write_differences(alloc, before, &valid, sink),
+        Err(unfit) => write_unfit_after(alloc, unfit, sink),
+    }
+}
+
+/// Writes what `inspect diff` answers to two documents, one before a change and one after: the lines of what differs, or
+/// the one line of the first of them that is not fit.
+pub fn answer_diff<K: Sink>(
+    alloc: Global,
+    before: &[u8],
+    after: &[u8],
+    sink: &mut K,
+) -> Result<Comparison, WriteRefusal>
+    ensures given { IfOk result (λ found. WasSaid (diff_answer before.now after.now) found
+        (K.taken sink.old) (K.taken sink.new)) }
+    ensures which { IfOk result (λ found. IsWhich found before.now after.now) }
+    ensures front { OnErr result (TookFront (K.taken sink.old) (K.taken sink.new)
+        (diff_answer before.now after.now).text) }
+    ensures cause { HasWriteCause (K.faults sink.old) (K.faults sink.new) result }
+{
+    match valid_from(alloc, before) {
+        Ok(valid) => answer_after(alloc, &valid, after, sink),
+        Err(unfit) => write_unfit_before(alloc, unfit, sink),
+    }
+}

@@ -1,0 +1,192 @@
+//! The answer of `expect`.
+ghost use Rattle.std.specs.Prelude.{◌≡◌, ◌≤◌, ◌∷◌, ◌++◌, [], length, IfOk, IfErr, OnErr};
+ghost use Rattle.std.specs.Io.KnownBytes.{Appends};
+ghost use Rattle.serde_json.specs.View.{view};
+ghost use Rattle.ov_io.specs.Inputs.{TookFront};
+ghost use Rattle.ov_io.specs.Pieces.{HasWriteCause, IsOnItsWay};
+ghost use Rattle.inspect_answers.specs.Answers.{IsUnfit, WasGiven, expect_answer, expect_value, expected_answer};
+ghost use Rattle.inspect_answers.specs.Expecting as expecting;
+ghost use Rattle.inspect_answers.specs.Expecting.{counts_line, drop_is_met, expect_text, unmet_count};
+ghost use Rattle.inspect_answers.specs.Expecting.{unmet_from, unmet_text};
+
+use crate::expect_lines::{CountsLines, UnmetLines};
+use crate::expect_reader::read_expect;
+use crate::expectation::{ExpectInput, Expectation, Expected};
+use crate::verdict::{Verdict, answer_unfit};
+use compile_answers::{Unfit, valid_of, write_one};
+use config_check::Valid;
+use config_model::ReadRefusal;
+use ov_io::{Sink, TextOut, WriteRefusal, write_gathered};
+use ov_json::value_of;
+use ov_types::{Items, NoMemory, Outcome, Why};
+use reach_plain::reach;
+use serde_json::Value;
+use std::alloc::Global;
+
+fn drop_is_met(expected: &Expected, why: Why) -> bool
+    ensures { result ≡ drop_is_met expected.now why }
+{
+    match expected {
+        Expected::Dropped => true,
+        Expected::NoSourcePort => matches!(why, Why::NoSourcePort),
+        Expected::NoDestination => matches!(why, Why::NoDestination),
+        Expected::NoRoute => matches!(why, Why::NoRoute),
+        Expected::Denied => matches!(why, Why::Denied { .. }),
+        Expected::Delivered { .. } => false,
+    }
+}
+
+/// Whether an outcome is as expected.
+fn is_met(expected: &Expected, outcome: &Outcome) -> bool
+    ensures { result ≡ expecting.is_met expected.now outcome.now }
+{
+    match (expected, outcome) {
+        (
+            Expected::Delivered { port, services },
+            Outcome::Delivered {
+                port: reached,
+                services: passed,
+            },
+        ) => *port == *reached && services.as_slice() == passed.as_slice(),
+        (_, Outcome::Delivered { .. }) => false,
+        (_, Outcome::Dropped { why }) => drop_is_met(expected, *why),
+    }
+}
+
+/// Hands on the line of a packet of this number, where its outcome is otherwise than expected, and says how many lines that
+/// are.
+#[tactic(auto, using(ov_io::proofs::PieceLemmas::way_stays))]
+fn write_unmet<K: Sink>(
+    alloc: Global,
+    number: usize,
+    valid: &Valid,
+    expectation: &Expectation,
+    sink: &mut K,
+    gathered: &mut TextOut,
+) -> Result<usize, WriteRefusal>
+    ensures count { IfOk result (λ count. count ≡ unmet_count valid.now.config (expectation.now ∷ [])) }
+    ensures one { IfOk result (λ count. count ≤ 1) }
+    ensures ok { IfOk result (λ count. IsOnItsWay (K.taken sink.old) (K.taken sink.new) gathered.new []
+        (gathered.old ++ unmet_text valid.now.config number expectation.now)) }
+    ensures front { OnErr result (TookFront (K.taken sink.old) (K.taken sink.new)
+        (gathered.old ++ unmet_text valid.now.config number expectation.now)) }
+    ensures cause { HasWriteCause (K.faults sink.old) (K.faults sink.new) result }
+{
+    let expected = &expectation.expected;
+    let outcome = reach(valid, expectation.packet);
+    if is_met(expected, &outcome) {
+        return Ok(0);
+    }
+    write_one(
+        alloc,
+        &UnmetLines { number, expected },
+        &outcome,
+        sink,
+        gathered,
+    )?;
+    Ok(1)
+}
+
+/// Hands on the line of each packet whose outcome is otherwise than expected, in order, and counts these.
+fn write_each_unmet<K: Sink>(
+    alloc: Global,
+    valid: &Valid,
+    packets: &[Expectation],
+    sink: &mut K,
+    gathered: &mut TextOut,
+) -> Result<usize, WriteRefusal>
+    ensures count { IfOk result (λ count. count ≡ unmet_count valid.now.config packets.now) }
+    ensures ok { IfOk result (λ count. IsOnItsWay (K.taken sink.old) (K.taken sink.new) gathered.new []
+        (gathered.old ++ unmet_from valid.now.config 1 packets.now)) }
+    ensures front { OnErr result (TookFront (K.taken sink.old) (K.taken sink.new)
+        (gathered.old ++ unmet_from valid.now.config 1 packets.now)) }
+    ensures cause { HasWriteCause (K.faults sink.old) (K.faults sink.new) result }
+{
+    let mut count = 0;
+    for (index, expectation) in packets.iter().enumerate() {
+        count += write_unmet(alloc, index + 1, valid, expectation, sink, gathered)?;
+    }
+    Ok(count)
+}
+
+/// Writes which packets have another outcome than is expected, and says whether one has.
+#[tactic(auto, unfolding(crate::specs::Expecting::expect_text))]
+fn write_expected<K: Sink>(
+    alloc: Global,
+    valid: &Valid,
+    packets: &[Expectation],
+    sink: &mut K,
+) -> Result<Verdict, WriteRefusal>
+    ensures given { IfOk result (λ verdict. WasGiven (expected_answer valid.now.config packets.now) verdict
+        (K.taken sink.old) (K.taken sink.new)) }
+    ensures front { OnErr result (TookFront (K.taken sink.old) (K.taken sink.new)
+        (expect_text valid.now.config packets.now)) }
+    ensures cause { HasWriteCause (K.faults sink.old) (K.faults sink.new) result }
+{
+    let mut gathered = TextOut::new(alloc);
+    let count = write_each_unmet(alloc, valid, packets, sink, &mut gathered)?;
+    let lines = CountsLines {
+        packets: packets.len(),
+    };
+    write_one(alloc, &lines, &count, sink, &mut gathered)?;
+    write_gathered(sink, &mut gathered)?;
+    if count == 0 {
+        Ok(Verdict::Good)
+    } else {
+        Ok(Verdict::Differs)
+    }
+}
+
+/// Packets of which something is expected, and the valid configuration that decides them.
+#[derive(Drop)]
+struct Question {
+    valid: Valid,
+    packets: Items<Expectation>,
+}
+
+/// What `expect` takes from a value.
+#[tactic(auto, using(crate::proofs::Unfitting::unfit_anyway), unfolding(crate::specs::Answers::expect_value))]
+fn expect_taken(alloc: Global, value: &Value) -> Result<Question, Unfit>
+    ensures fit { IfOk result (λ asked. expect_value (view value.now)
+        ≡ expected_answer asked.valid.config asked.packets) }
+    ensures unfit { IfErr result (λ unfit. IsUnfit unfit (expect_value (view value.now))) }
+{
+    match read_expect(alloc, value) {
+        Ok(ExpectInput { input, packets }) => match valid_of(alloc, input) {
+            Ok(valid) => Ok(Question { valid, packets }),
+            Err(unfit) => Err(unfit),
+        },
+        Err(ReadRefusal::Doc(fault)) => Err(Unfit::BadDocument(fault)),
+        Err(ReadRefusal::NoMemory) => Err(Unfit::NoMemory),
+    }
+}
+
+/// What `expect` takes from an input.
+#[tactic(auto, unfolding(crate::specs::Answers::expect_answer))]
+fn expect_asked(alloc: Global, octets: &[u8]) -> Result<Question, Unfit>
+    ensures fit { IfOk result (λ asked. expect_answer octets.now ≡ expected_answer asked.valid.config asked.packets) }
+    ensures unfit { IfErr result (λ unfit. IsUnfit unfit (expect_answer octets.now)) }
+{
+    match value_of(alloc, octets) {
+        Ok(Some(value)) => expect_taken(alloc, &value),
+        Ok(None) => Err(Unfit::NotJson),
+        Err(NoMemory) => Err(Unfit::NoMemory),
+    }
+}
+
+/// Writes what `expect` answers to an input.
+pub(crate) fn answer_expect<K: Sink>(
+    alloc: Global,
+    octets: &[u8],
+    sink: &mut K,
+) -> Result<Verdict, WriteRefusal>
+    ensures given { IfOk result (λ verdict. WasGiven (expect_answer octets.now) verdict
+        (K.taken sink.old) (K.taken sink.new)) }
+    ensures front { OnErr result (TookFront (K.taken sink.old) (K.taken sink.new) (expect_answer octets.now).text) }
+    ensures cause { HasWriteCause (K.faults sink.old) (K.faults sink.new) result }
+{
+    match expect_asked(alloc, octets) {
+        Ok(asked) => write_expected(alloc, &asked.valid, asked.packets.as_slice(), sink),
+        Err(unfit) => answer_unfit(alloc, unfit, sink),
+    }
+}
