@@ -1,7 +1,7 @@
 -- What the words of the command line ask of the program itself, and which file they name.
 use Rattle.std.specs.Prelude.{◌≡◌, IsSome, ℕ, ◌||◌, List, [], ◌∷◌, codes, nat_eq, Option, Some, None}
-use Rattle.std.specs.Prelude.{String, string_bytes, if◌then◌else◌}
-use Rattle.inspect_answers.specs.Commands.{asked_of}
+use Rattle.std.specs.Prelude.{String, string_bytes, true, if◌then◌else◌}
+use Rattle.inspect_answers.specs.Commands.{asked_of, is_diff}
 use Rattle.inspect_answers.specs.declared.asked.Asked.{Asked}
 use Rattle.std.specs.declared.alloc.Global.{Global}
 use Rattle.std.specs.Cmp.Lexicographic.{pointwise}
@@ -26,6 +26,13 @@ file_of [] = None
 file_of (command ∷ []) = None
 file_of (command ∷ file ∷ words) = Some (string_bytes file)
 
+-- the second file of two is named by the third word
+abbrev pub file_after_of : List (String Global) → Option (List ℕ)
+file_after_of [] = None
+file_after_of (command ∷ []) = None
+file_after_of (command ∷ file ∷ []) = None
+file_after_of (command ∷ file ∷ other ∷ words) = Some (string_bytes other)
+
 -- words that are a command ask nothing of the program itself
 abbrev pub CommandsAreNoRequests : Type 0
 CommandsAreNoRequests = (words : List (String Global)) (asked : Asked) → asked_of words ≡ Some asked → request_of words ≡ request.Run
@@ -33,3 +40,15 @@ CommandsAreNoRequests = (words : List (String Global)) (asked : Asked) → asked
 -- and name a file
 abbrev pub CommandsNameFiles : Type 0
 CommandsNameFiles = (words : List (String Global)) (asked : Asked) → asked_of words ≡ Some asked → IsSome (file_of words)
+
+-- words that ask what differs ask nothing of the program itself
+abbrev pub DiffIsNoRequest : Type 0
+DiffIsNoRequest = (words : List (String Global)) → is_diff words ≡ true → request_of words ≡ request.Run
+
+-- and name two files
+abbrev pub DiffNamesFiles : Type 0
+DiffNamesFiles = (words : List (String Global)) → is_diff words ≡ true → IsSome (file_of words) × IsSome (file_after_of words)
+
+-- and are no other command
+abbrev pub DiffIsNoOther : Type 0
+DiffIsNoOther = (words : List (String Global)) → is_diff words ≡ true → asked_of words ≡ None

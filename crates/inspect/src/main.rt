@@ -5,7 +5,7 @@ ghost use Rattle.std.specs.Prelude.{◌≡◌, ◌≢◌, ◌↔◌, ◌⊎◌, 
 ghost use Rattle.std.specs.IoError.{error_kind};
 ghost use Rattle.std.specs.declared.io.ErrorKind.TheVariants.{OutOfMemory};
 ghost use Rattle.std.specs.Process.{exit_status};
-ghost use Rattle.inspect.specs.Requests.{file_of, request_named, request_of};
+ghost use Rattle.inspect.specs.Requests.{file_after_of, file_of, request_named, request_of};
 ghost use Rattle.inspect_answers.specs.Runs.{number_of};
 
 mod laws;
@@ -15,7 +15,7 @@ use explanations::{
     Advice, Explanation, FrontSink, HeardSource, KeptInput, explain_form, explain_refusal,
     explain_stop,
 };
-use inspect_answers::{Status, asked_of, inspect};
+use inspect_answers::{Status, Which, asked_of, inspect, inspect_diff, is_diff};
 use ov_io::{StdSink, StdSource};
 use sentence::Sentence;
 use std::alloc::Global;
@@ -30,6 +30,7 @@ const VERSION: &str = "inspect 0.1.0\n";
 const USAGE: &str = "usage: inspect COMMAND, where a FILE of - is standard input:
   ways FILE            what is let through from each network to each other, by which rule and through which services
   ways FILE FROM TO    the same from one network to one other
+  diff OLD NEW         what goes another way after a change: objects, and which packets by which rule and services
   expect FILE          which packets have another outcome than the document expects
   --help               this text; so does -h
   --version            the version
@@ -38,7 +39,7 @@ const USAGE: &str = "usage: inspect COMMAND, where a FILE of - is standard input
 const STATUSES: &str =
     "exit status; from 3 on standard error has a sentence for people, at 2 the usage:
   0  done: all was read, and all is written
-  1  so too, and something differs: an outcome is otherwise than is expected
+  1  so too, and something differs: what two documents have, or an outcome from what is expected
   2  the words are no command
   3  the file could not be opened or read
   4  the input has more than 16,777,216 octets
@@ -94,6 +95,16 @@ fn file_of(words: &[String]) -> Option<&str>
 {
     match words {
         [_, file, ..] => Some(file.as_str()),
+        _ => None,
+    }
+}
+
+/// The file that the words name behind that one.
+fn file_after_of(words: &[String]) -> Option<&str>
+    ensures { option_copied result ≡ file_after_of words.now }
+{
+    match words {
+        [_, _, file, ..] => Some(file.as_str()),
         _ => None,
     }
 }
@@ -171,11 +182,78 @@ fn end(rt: &HostRuntime, file: &str, status: Status) -> Status {
     status
 }
 
-/// Opens the file that the words name, and answers them.
+/// The files of two documents.
+#[derive(Clone, Copy)]
+struct Files<'a> {
+    before: &'a str,
+    after: &'a str,
+}
+
+/// Runs the top call over two open files and standard output, and says to people how it ended.
+fn compare<R: Read + Drop, S: Read + Drop>(
+    rt: &HostRuntime,
+    words: &[String],
+    files: Files<'_>,
+    before: R,
+    after: S,
+) -> Status {
+    let kept_before = KeptInput::Document(Vec::new(rt.alloc()));
+    let kept_after = KeptInput::Document(Vec::new(rt.alloc()));
+    let mut before = HeardSource::new(StdSource::new(before), kept_before);
+    let mut after = HeardSource::new(StdSource::new(after), kept_after);
+    let mut sink = FrontSink::new(StdSink::new(rt.stdout()));
+    let ending = inspect_diff(rt.alloc(), words, &mut before, &mut after, &mut sink);
+    let status = ending.status;
+    match ending.which {
+        Which::Before => say(rt, files.before, status, sink.front(), before.heard()),
+        Which::After => say(rt, files.after, status, sink.front(), after.heard()),
+    }
+    status
+}
+
+/// Opens the file of the document after a change, and compares that with the one before.
+fn open_after<R: Read + Drop>(
+    rt: &HostRuntime,
+    words: &[String],
+    files: Files<'_>,
+    before: R,
+) -> Status {
+    if files.after == "-" {
+        return compare(rt, words, files, before, rt.stdin());
+    }
+    match fs::open(rt, files.after) {
+        Ok(after) => compare(rt, words, files, before, after),
+        Err(error) => end(rt, files.after, status_by(&error, Status::ReadFault)),
+    }
+}
+
+/// Opens the files of two documents, and compares these.
+fn open_both(rt: &HostRuntime, words: &[String], files: Files<'_>) -> Status {
+    if files.before == "-" {
+        return open_after(rt, words, files, rt.stdin());
+    }
+    match fs::open(rt, files.before) {
+        Ok(before) => open_after(rt, words, files, before),
+        Err(error) => end(rt, files.before, status_by(&error, Status::ReadFault)),
+    }
+}
+
+/// Opens the files of two documents that the words name, the second behind the first, and compares these.
+fn run_diff(rt: &HostRuntime, words: &[String], before: &str) -> Status {
+    match file_after_of(words) {
+        Some(after) => open_both(rt, words, Files { before, after }),
+        None => end(rt, before, Status::Usage),
+    }
+}
+
+/// Opens the files that the words name, and answers them.
 fn run(rt: &HostRuntime, words: &[String]) -> Status {
     let Some(file) = file_of(words) else {
         return end(rt, "-", Status::Usage);
     };
+    if is_diff(words) {
+        return run_diff(rt, words, file);
+    }
     if asked_of(words).is_none() {
         return end(rt, file, Status::Usage);
     }

@@ -177,7 +177,7 @@ address_of q u e = cc
 -- packets of which no line tells go between the same networks
 
 pub goes_on : (c d : Config) (p : Packet) (a b : Network) (number : ℕ) (topology : Topology) → IsTrue (has_config_form d) → first_broken topology d ≡ None
-    → GoesBetween c p a b number → IsUnnamed c d p a b number → GoesOn d p a b number
+    → GoesBetween c p a b number → IsUnnamed (gone c d) c p a b number → GoesOn d p a b number
 goes_on c d p a b number topology form valid g none =
     let own = network_is d a (stays c d (network_of a) (network_stands c a g.leaves.own_stands) none.from) in
     let target = network_is d b (stays c d (network_of b) (network_stands c b g.stands) none.to) in

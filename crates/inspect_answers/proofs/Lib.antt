@@ -12,3 +12,4 @@ mod Meeting
 mod Otherwise
 mod Taken
 mod Keeping
+mod Changed

@@ -1,9 +1,12 @@
 -- All differences of two configurations, and the packets between ports that no line of objects names.
-use Rattle.std.proofs.Common.{◌≡◌, ◌≢◌, ◌↔◌, ℕ, Bool, true, false, cond, IsTrue, List, [], ◌∷◌, Option, Some, None, refl, sym, ap, ◌∙◌, subst}
+use Rattle.std.proofs.Common.{◌≡◌, ◌≢◌, ◌↔◌, ◌≤◌, arith, inl, inr, ℕ, Bool, true, false, cond, IsTrue, List, [], ◌∷◌, Option, Some, None, refl, sym, ap, ◌∙◌, subst}
+use Rattle.std.specs.Prelude.{count_by}
 use Rattle.std.specs.List.{Contains}
+use Rattle.std.proofs.lemmas.List.Sums.{sum_by-cons}
 use Rattle.ov_types.specs.First.{same_name}
 use Rattle.ov_types.specs.declared.packet.Packet.{Packet}
-use Rattle.ov_types.proofs.FirstLemmas.{found_is, same_name_iff}
+use Rattle.ov_types.specs.declared.packet.Tuple.{Tuple}
+use Rattle.ov_types.proofs.FirstLemmas.{contains_cases, found_is, same_name_iff}
 use Rattle.config_types.specs.Form.{has_config_form}
 use Rattle.config_types.specs.declared.config.Config.{Config}
 use Rattle.config_types.specs.declared.config.Network.{Network}
@@ -14,14 +17,17 @@ use Rattle.config_check.proofs.Finders.{finds_network_named}
 use Rattle.policy_rules.proofs.Lists.{is_joined, joined_is}
 use Rattle.policy_regions.specs.Joined.{regions_between}
 use Rattle.policy_regions.specs.Overlay.{overlay}
+use Rattle.policy_regions.specs.Parts.{IsTuple}
+use Rattle.policy_regions.specs.Regions.{holds}
 use Rattle.policy_regions.specs.declared.overlays.Compared.{Compared}
 use Rattle.reach_plain.proofs.Kept.{valid}
 use Rattle.inspect_answers.specs.Deliveries.{GoesBetween, delivery_in}
 use Rattle.inspect_answers.specs.Fates.{IsOnDifference, all_differences, differences_between, differences_from, differences_of, differences_to, passage, same_passage}
+use Rattle.inspect_answers.specs.Objects.{gone}
 use Rattle.inspect_answers.specs.Unnamed.{GoesOn, IsOnLine, IsUnnamed}
 use Rattle.inspect_answers.specs.declared.fate.Difference.{Difference}
 use Rattle.inspect_answers.proofs.Delivered as Delivered
-use Rattle.inspect_answers.proofs.Differing.{fares, made, new_fate, old_fate}
+use Rattle.inspect_answers.proofs.Differing.{fares, made, new_fate, old_fate, on_one_at_most}
 use Rattle.inspect_answers.proofs.Exact.{nothing, sole}
 use Rattle.inspect_answers.proofs.Gone.{goes_on}
 
@@ -123,7 +129,7 @@ differs a b h =
     ] refl
 
 module _ (c d : Config) (p : Packet) (a b : Network) (number : ℕ) (topology : Topology) (form : IsTrue (has_config_form d)) (kept : first_broken topology d ≡ None)
-    (g : GoesBetween c p a b number) (none : IsUnnamed c d p a b number) where
+    (g : GoesBetween c p a b number) (none : IsUnnamed (gone c d) c p a b number) where
   on : GoesOn d p a b number
   on = goes_on c d p a b number topology form kept g none
 
@@ -172,3 +178,59 @@ module _ (c d : Config) (p : Packet) (a b : Network) (number : ℕ) (topology : 
 
   pub exact : (delivery_in c p number ≢ delivery_in d p number) ↔ ((x : Difference) × IsOnLine (all_differences c d) a.name b.name p.tuple x)
   exact = (to_line, from_line)
+
+-- of what holds of one item at most, two items are one
+
+counted : (b : Bool) → b ≡ true → 1 ≤ cond b 1 0
+counted true h = omega arith
+counted false h = absurd cc
+
+held_by_none : {A : Type 0} (p : A → Bool) (xs : List A) (x : A) → count_by p xs ≤ 0 → Contains xs x → p x ≡ true → ⊥
+held_by_none p [] x few at held = nothing x at
+held_by_none p (y ∷ xs) x few at held =
+    let sum = sum_by-cons (λ z. cond (p z) 1 0) y xs in
+    elim (contains_cases y xs x at) [
+      | inl same ↦ let first = counted (p y) (ap p same ∙ held) in omega (arith, first, sum, few)
+      | inr later ↦ held_by_none p xs x (omega (arith, sum, few)) later held
+    ]
+
+only_one : {A : Type 0} (p : A → Bool) (xs : List A) (x y : A) → count_by p xs ≤ 1 → Contains xs x → Contains xs y → p x ≡ true → p y ≡ true → x ≡ y
+only_one p [] x y few at_x at_y is_x is_y = nothing x at_x
+only_one p (z ∷ xs) x y few at_x at_y is_x is_y =
+    let sum = sum_by-cons (λ w. cond (p w) 1 0) z xs in
+    elim (contains_cases z xs x at_x) [
+      | inl first ↦ elim (contains_cases z xs y at_y) [
+        | inl second ↦ sym first ∙ second
+        | inr later ↦
+            let one = counted (p z) (ap p first ∙ is_x) in
+            absurd (held_by_none p xs y (omega (arith, one, sum, few)) later is_y)
+      ]
+      | inr there ↦ elim (contains_cases z xs y at_y) [
+        | inl second ↦
+            let one = counted (p z) (ap p second ∙ is_y) in
+            absurd (held_by_none p xs x (omega (arith, one, sum, few)) there is_x)
+        | inr later ↦ only_one p xs x y (omega (arith, sum, few)) there later is_x is_y
+      ]
+    ]
+
+-- no two lines of two networks hold one tuple
+pub one_line : (s t : Topology) (c d : Config) (from to : List ℕ) (u : Tuple) (x y : Difference) → first_broken s c ≡ None → first_broken t d ≡ None
+    → IsTuple u → IsOnLine (all_differences c d) from to u x → IsOnLine (all_differences c d) from to u y → x ≡ y
+one_line s t c d from to u x y good kept tuple first second =
+    let f = is_of c d x first.stands in
+    let g = is_of c d y second.stands in
+    let fs = names_of c d f.from f.to f.from_after f.to_after x f.among in
+    let gs = names_of c d g.from g.to g.from_after g.to_after y g.among in
+    let one : g.from ≡ f.from = one_network s c g.from f.from good g.from_stands f.from_stands (sym gs.0 ∙ second.source ∙ sym first.source ∙ fs.0) in
+    let two : g.to ≡ f.to = one_network s c g.to f.to good g.to_stands f.to_stands (sym gs.1 ∙ second.destination ∙ sym first.destination ∙ fs.1) in
+    let three : g.from_after ≡ f.from_after =
+    one_network t d g.from_after f.from_after kept g.from_after_stands f.from_after_stands (g.from_name ∙ ap (λ (n : Network). n.name) one ∙ sym f.from_name) in
+    let four : g.to_after ≡ f.to_after =
+    one_network t d g.to_after f.to_after kept g.to_after_stands f.to_after_stands (g.to_name ∙ ap (λ (n : Network). n.name) two ∙ sym f.to_name) in
+    let there : Contains (differences_between c f.from f.to d f.from_after f.to_after) y =
+    subst (λ (n : Network). Contains (differences_between c f.from f.to d f.from_after n) y) four
+    (subst (λ (n : Network). Contains (differences_between c f.from f.to d n g.to_after) y) three
+    (subst (λ (n : Network). Contains (differences_between c f.from n d g.from_after g.to_after) y) two
+    (subst (λ (n : Network). Contains (differences_between c n g.to d g.from_after g.to_after) y) one g.among))) in
+    only_one (λ (z : Difference). holds z.region u) (differences_between c f.from f.to d f.from_after f.to_after) x y
+    (on_one_at_most c f.from f.to d f.from_after f.to_after u tuple) f.among there first.on second.on

@@ -1,5 +1,5 @@
 -- The words of the command line.
-use Rattle.std.specs.Prelude.{ℕ, Bool, List, [], ◌∷◌, codes, nat_eq, Option, Some, None, String, string_bytes, if◌then◌else◌}
+use Rattle.std.specs.Prelude.{ℕ, ◌&&◌, Bool, false, not, List, [], ◌∷◌, codes, nat_eq, Option, Some, None, String, string_bytes, if◌then◌else◌}
 use Rattle.std.specs.Cmp.Lexicographic.{pointwise}
 use Rattle.std.specs.declared.alloc.Global.{Global}
 use Rattle.ov_types.specs.First.{same_name}
@@ -32,3 +32,12 @@ asked_of (command ∷ file ∷ from ∷ []) = None
 asked_of (command ∷ file ∷ from ∷ to ∷ []) =
     if is_ways (string_bytes command) then asked_between (name_of (string_bytes from)) (name_of (string_bytes to)) else None
 asked_of (command ∷ file ∷ from ∷ to ∷ other ∷ words) = None
+
+abbrev pub is_input : List ℕ → Bool
+is_input file = pointwise nat_eq file (codes "-")
+
+-- words ask what differs between two documents: a command and the files of both, of which one at most is standard input
+abbrev pub is_diff : List (String Global) → Bool
+is_diff (command ∷ before ∷ after ∷ []) =
+    pointwise nat_eq (string_bytes command) (codes "diff") && not (is_input (string_bytes before) && is_input (string_bytes after))
+is_diff _ = false

@@ -13,3 +13,5 @@ pub mod Commands
 pub mod Promise
 pub mod Unmet
 pub mod Runs
+pub mod Changes
+pub mod TwoRuns

@@ -8,15 +8,16 @@ use Rattle.config_types.specs.declared.config.Network.{Network}
 use Rattle.config_types.specs.declared.config.Port.{Port}
 use Rattle.policy_regions.specs.Regions.{holds}
 use Rattle.inspect_answers.specs.Deliveries.{GoesBetween}
-use Rattle.inspect_answers.specs.Objects.{gone, network_of, port_of}
+use Rattle.inspect_answers.specs.Objects.{network_of, port_of}
 use Rattle.inspect_answers.specs.declared.fate.Difference.{Difference}
+use Rattle.inspect_answers.specs.declared.objects.Object.{Object}
 
 -- of what went, nothing is a packet's network, the network or the port of its destination, or the port that it leaves
-pub record IsUnnamed (c d : Config) (p : Packet) (a b : Network) (number : ℕ) : Type 0 where
-  pub from : ¬ Contains (gone c d) (network_of a)
-  pub to : ¬ Contains (gone c d) (network_of b)
-  pub source : (q : Port) → Contains c.ports q → q.id ≡ p.source → ¬ Contains (gone c d) (port_of q)
-  pub destination : (q : Port) → Contains c.ports q → q.id.0 ≡ number → ¬ Contains (gone c d) (port_of q)
+pub record IsUnnamed (went : List Object) (c : Config) (p : Packet) (a b : Network) (number : ℕ) : Type 0 where
+  pub from : ¬ Contains went (network_of a)
+  pub to : ¬ Contains went (network_of b)
+  pub source : (q : Port) → Contains c.ports q → q.id ≡ p.source → ¬ Contains went (port_of q)
+  pub destination : (q : Port) → Contains c.ports q → q.id.0 ≡ number → ¬ Contains went (port_of q)
 
 -- a packet goes between networks of these names, to the port of a number
 pub record GoesOn (c : Config) (p : Packet) (a b : Network) (number : ℕ) : Type 0 where

@@ -1,7 +1,7 @@
 //! What is asked for by the words of the command line.
 ghost use Rattle.std.specs.Prelude.{◌≡◌};
 ghost use Rattle.ov_types.specs.Name.{name_of};
-ghost use Rattle.inspect_answers.specs.Commands.{asked_alone, asked_between, asked_of, is_ways};
+ghost use Rattle.inspect_answers.specs.Commands.{asked_alone, asked_between, asked_of, is_diff, is_input, is_ways};
 
 use ov_types::Name;
 
@@ -62,4 +62,23 @@ fn asked_between(from: &str, to: &str) -> Option<Asked>
         return None;
     }
     Some(Asked::Ways(Pairs::Between { from, to }))
+}
+
+fn is_input(file: &str) -> bool
+    ensures { result ≡ is_input file.now }
+{
+    file == "-"
+}
+
+/// Whether the words after the program's name ask what differs between two documents: the command and the files of both,
+/// of which one at most is standard input.
+pub fn is_diff(words: &[String]) -> bool
+    ensures { result ≡ is_diff words.now }
+{
+    match words {
+        [command, before, after] => {
+            command.as_str() == "diff" && !(is_input(before.as_str()) && is_input(after.as_str()))
+        }
+        _ => false,
+    }
 }

@@ -1,15 +1,18 @@
 //! What is answered to two documents, one before a change and one after.
-ghost use Rattle.std.specs.Prelude.{◌≡◌, ◌++◌, [], IfOk, IfErr, OnOk, OnErr};
+ghost use Rattle.std.specs.Prelude.{◌≡◌, ◌++◌, [], ℕ, List, IfOk, IfErr, OnOk, OnErr};
 ghost use Rattle.std.specs.Io.KnownBytes.{Appends};
 ghost use Rattle.serde_json.specs.View.{view};
 ghost use Rattle.ov_io.specs.Inputs.{TookFront};
 ghost use Rattle.ov_io.specs.Pieces.{HasWriteCause, IsOnItsWay};
 ghost use Rattle.config_types.specs.declared.config.Config.{Config as Configuration};
 ghost use Rattle.compile_answers.specs.Answers.{DocumentAnswer, IsAnswered, answer_good};
+ghost use Rattle.inspect_answers.specs.Changes.{IsValidAs, IsValidIn, TookDifferences};
 ghost use Rattle.inspect_answers.specs.Differences.{IsOfAfter, IsOfBefore, IsWhich, IsWhichAfter, SaysWhether, WasSaid};
 ghost use Rattle.inspect_answers.specs.Differences.{diff_answer, diff_text, lists_text, to_document, to_value};
 ghost use Rattle.inspect_answers.specs.Fates.{all_differences};
 ghost use Rattle.inspect_answers.specs.Objects.{gone};
+ghost use Rattle.inspect_answers.specs.Runs.{IsAnswered as IsEndOfAnswer};
+ghost use Rattle.inspect_answers.specs.TwoRuns.{status_found};
 
 use crate::difference_lines::{CameLines, DifferenceLines, WentLines};
 use crate::differences::all_differences;
@@ -42,6 +45,7 @@ fn valid_in(alloc: Global, value: &Value) -> Result<Valid, Unfit>
         → to_value answer (view value.now) ≡ answer valid.config) }
     ensures unfit { IfErr result (λ unfit. (answer : Configuration → DocumentAnswer)
         → IsAnswered unfit (to_value answer (view value.now))) }
+    ensures read { IfOk result (λ valid. IsValidAs (view value.now) valid) }
 {
     match read_compile(alloc, value) {
         Ok(input) => valid_of(alloc, input),
@@ -57,6 +61,7 @@ fn valid_from(alloc: Global, octets: &[u8]) -> Result<Valid, Unfit>
         → to_document answer octets.now ≡ answer valid.config) }
     ensures unfit { IfErr result (λ unfit. (answer : Configuration → DocumentAnswer)
         → IsAnswered unfit (to_document answer octets.now)) }
+    ensures read { IfOk result (λ valid. IsValidIn octets.now valid) }
 {
     match value_of(alloc, octets) {
         Ok(Some(value)) => valid_in(alloc, &value),
@@ -159,6 +164,8 @@ fn write_differences<K: Sink>(
     ensures front { OnErr result (TookFront (K.taken sink.old) (K.taken sink.new)
         (diff_text before.now.config after.now.config)) }
     ensures cause { HasWriteCause (K.faults sink.old) (K.faults sink.new) result }
+    ensures promise { (first second : List ℕ) → IsValidIn first before.now → IsValidIn second after.now
+        → IfOk result (λ found. TookDifferences (status_found found) first second (K.taken sink.old) (K.taken sink.new)) }
 {
     let found = find(alloc, before, after)?;
     write_found(alloc, &found, sink)?;
@@ -177,6 +184,7 @@ fn write_unfit_before<K: Sink>(
         → OnErr result (TookFront (K.taken sink.old) (K.taken sink.new) answer.text) }
     ensures cause { HasWriteCause (K.faults sink.old) (K.faults sink.new) result }
     ensures before { IfOk result (λ found. IsOfBefore found) }
+    ensures unfit { IfOk result (λ found. ¬ IsEndOfAnswer (status_found found)) }
 {
     let reception = write_unfit(alloc, unfit, sink)?;
     Ok(Comparison::UnfitBefore(reception))
@@ -194,6 +202,7 @@ fn write_unfit_after<K: Sink>(
         → OnErr result (TookFront (K.taken sink.old) (K.taken sink.new) answer.text) }
     ensures cause { HasWriteCause (K.faults sink.old) (K.faults sink.new) result }
     ensures after { IfOk result (λ found. IsOfAfter found) }
+    ensures unfit { IfOk result (λ found. ¬ IsEndOfAnswer (status_found found)) }
 {
     let reception = write_unfit(alloc, unfit, sink)?;
     Ok(Comparison::UnfitAfter(reception))
@@ -213,6 +222,8 @@ fn answer_after<K: Sink>(
     ensures front { OnErr result (TookFront (K.taken sink.old) (K.taken sink.new)
         (to_document (λ d. answer_good (diff_text before.now.config d)) after.now).text) }
     ensures cause { HasWriteCause (K.faults sink.old) (K.faults sink.new) result }
+    ensures promise { (first : List ℕ) → IsValidIn first before.now → IfOk result (λ found. IsEndOfAnswer (status_found found)
+        → TookDifferences (status_found found) first after.now (K.taken sink.old) (K.taken sink.new)) }
 {
     match valid_from(alloc, after) {
         Ok(valid) => write_differences(alloc, before, &valid, sink),
@@ -222,7 +233,7 @@ fn answer_after<K: Sink>(
 
 /// Writes what `inspect diff` answers to two documents, one before a change and one after: the lines of what differs, or
 /// the one line of the first of them that is not fit.
-pub fn answer_diff<K: Sink>(
+pub(crate) fn answer_diff<K: Sink>(
     alloc: Global,
     before: &[u8],
     after: &[u8],
@@ -234,6 +245,8 @@ pub fn answer_diff<K: Sink>(
     ensures front { OnErr result (TookFront (K.taken sink.old) (K.taken sink.new)
         (diff_answer before.now after.now).text) }
     ensures cause { HasWriteCause (K.faults sink.old) (K.faults sink.new) result }
+    ensures promise { IfOk result (λ found. IsEndOfAnswer (status_found found)
+        → TookDifferences (status_found found) before.now after.now (K.taken sink.old) (K.taken sink.new)) }
 {
     match valid_from(alloc, before) {
         Ok(valid) => answer_after(alloc, &valid, after, sink),

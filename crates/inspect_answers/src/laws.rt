@@ -68,7 +68,7 @@ pub fn what_went_is_not_there()
 /// and to the same port, where neither the networks nor the ports are among what went.
 pub fn unnamed_packets_go_on()
     ensures { (c d : Config) (p : Packet) (a b : Network) (number : ℕ) (topology : Topology) → IsTrue (has_config_form d)
-        → first_broken topology d ≡ None → GoesBetween c p a b number → IsUnnamed c d p a b number
+        → first_broken topology d ≡ None → GoesBetween c p a b number → IsUnnamed (gone c d) c p a b number
         → GoesOn d p a b number }
 {}
 
@@ -78,12 +78,12 @@ pub fn unnamed_packets_go_on()
 /// difference has it.
 pub fn lines_are_of_deliveries()
     ensures exact { (c d : Config) (p : Packet) (a b : Network) (number : ℕ) (topology : Topology) → IsTrue (has_config_form d)
-        → first_broken topology d ≡ None → GoesBetween c p a b number → IsUnnamed c d p a b number
+        → first_broken topology d ≡ None → GoesBetween c p a b number → IsUnnamed (gone c d) c p a b number
         → (delivery_in c p number ≢ delivery_in d p number)
         ↔ ((x : Difference) × IsOnLine (all_differences c d) a.name b.name p.tuple x) }
     ensures told { (c d : Config) (p : Packet) (a b : Network) (number : ℕ) (topology : Topology) (x : Difference)
         → IsTrue (has_config_form d) → first_broken topology d ≡ None → GoesBetween c p a b number
-        → IsUnnamed c d p a b number → IsOnLine (all_differences c d) a.name b.name p.tuple x
+        → IsUnnamed (gone c d) c p a b number → IsOnLine (all_differences c d) a.name b.name p.tuple x
         → (delivery_in c p number ≡ passage x.was) × (delivery_in d p number ≡ passage x.becomes) }
 {}
 

@@ -4,6 +4,7 @@
 
 mod answering;
 mod asked;
+mod comparing;
 mod difference_lines;
 mod differences;
 mod diffing;
@@ -22,9 +23,9 @@ mod way;
 mod ways;
 mod writing;
 
-pub use asked::{Asked, Pairs, asked_of};
+pub use asked::{Asked, Pairs, asked_of, is_diff};
+pub use comparing::{Ending, Which, inspect_diff};
 pub use differences::differences_between;
-pub use diffing::{Comparison, answer_diff};
 pub use expectation::{ExpectInput, Expectation, Expected};
 pub use fate::{Difference, Fate};
 pub use objects::Object;

@@ -23,7 +23,8 @@ pub(crate) const MAX_INPUT_OCTETS: usize = 16_777_216;
 pub enum Status {
     /// What is asked is answered, and nothing in it differs.
     Done,
-    /// What is asked is answered, and something in it differs: an outcome is otherwise than is expected.
+    /// What is asked is answered, and something in it differs: an outcome is otherwise than is expected, or what two
+    /// configurations have.
     Differs,
     Usage,
     ReadFault,
@@ -124,7 +125,7 @@ pub fn inspect<S: Source, K: Sink>(
 }
 
 /// The status that tells a verdict.
-fn status_from(verdict: Verdict) -> Status
+pub(crate) fn status_from(verdict: Verdict) -> Status
     ensures { result ≡ status_of verdict }
 {
     match verdict {
