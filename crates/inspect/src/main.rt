@@ -32,6 +32,7 @@ const USAGE: &str = "usage: inspect COMMAND, where a FILE of - is standard input
   ways FILE FROM TO    the same from one network to one other
   diff OLD NEW         what goes another way after a change: objects, and which packets by which rule and services
   expect FILE          which packets have another outcome than the document expects
+  unused FILE          which rules decide no packet, and which policies and chains are not in use
   --help               this text; so does -h
   --version            the version
 ";

@@ -1,5 +1,5 @@
 -- One packet is counted as itself.
-use Rattle.std.proofs.Common.{◌≡◌, ◌+◌, ◌==◌, ◌&&◌, ℕ, zero, suc, Bool, true, false, List, ◌∷◌, [], cond, not, refl, ap, ◌∙◌, arith}
+use Rattle.std.proofs.Common.{◌≡◌, ◌+◌, ◌==◌, ◌&&◌, ℕ, zero, suc, true, false, List, ◌∷◌, [], cond, not, refl, ap, ◌∙◌, arith}
 use Rattle.std.proofs.lemmas.List.Sums.{sum_by-cons}
 use Rattle.config_types.specs.declared.config.Config.{Config}
 use Rattle.inspect_answers.specs.Expectations.{Expectation}

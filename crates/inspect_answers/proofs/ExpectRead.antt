@@ -1,10 +1,9 @@
 -- Expectations of the written form have documents, which read as them, and what reads so has just its members.
-use Rattle.std.proofs.Common.{◌≡◌, ◌<◌, ◌^◌, ◌&&◌, ℕ, nat_le, leb, Bool, true, false, List, [], ◌∷◌, Some, None, Ok, refl, arith, codes, nat_eq}
+use Rattle.std.proofs.Common.{◌≡◌, ◌<◌, ◌^◌, ◌&&◌, ℕ, nat_le, leb, Bool, true, false, List, [], ◌∷◌, Some, Ok, refl, arith, codes, nat_eq}
 use Rattle.std.specs.Cmp.Lexicographic.{pointwise}
 use Rattle.std.specs.List.{list_all}
 use Rattle.std.proofs.lemmas.Bool.{and_parts, le-leb, leb-true, or_parts}
-use Rattle.serde_json.specs.Data.{Data, string}
-use Rattle.serde_json.specs.Find.{as_object, as_str}
+use Rattle.serde_json.specs.Data.{string}
 use Rattle.ov_types.specs.Texts.{address_text}
 use Rattle.ov_types.specs.Written.{address_of}
 use Rattle.ov_types.specs.declared.prefix.Addr.{Addr}
@@ -12,13 +11,13 @@ use Rattle.ov_types.proofs.OneText.{address_has_one_text}
 use Rattle.config_model.specs.declared.fields.Count.TheVariants.{AnyNumber}
 use Rattle.config_model.specs.Documents.{number_document}
 use Rattle.config_model.specs.Fields.{address_at, in_member, member_at, object_at, only_at, text_at, whole_at}
-use Rattle.config_model.specs.Laws.{IsRead, compile_form, fault_at, is_among}
+use Rattle.config_model.specs.Laws.{IsRead, compile_form, is_among}
 use Rattle.config_model.proofs.HasJust.{bind_ok, has_no_other, is_object, is_there}
 use Rattle.config_model.proofs.Read.{config_is_read, list_is_read, topology_is_read, whole_is_read}
 use Rattle.config_types.specs.Form.{has_config_form, has_packet_form, has_topology_form}
 use Rattle.inspect_answers.specs.ExpectDocuments.{ExpectHasJust, ExpectationHasJust, NothingElseIsExpected, OtherIsNoExpectation}
 use Rattle.inspect_answers.specs.ExpectDocuments.{expect_document, expect_form, expectation_document, expectation_form}
-use Rattle.inspect_answers.specs.ExpectDocuments.{expected_document, expected_form, expected_words, service_document, service_form}
+use Rattle.inspect_answers.specs.ExpectDocuments.{expected_document, expected_form, service_document, service_form}
 use Rattle.inspect_answers.specs.Expectations.{delivered_at, expect_at, expectation_at, expected_at, service_number_at}
 use Rattle.inspect_answers.specs.declared.expectation.Expected.TheVariants.{Dropped, NoSourcePort, NoDestination, NoRoute, Denied, Delivered}
 

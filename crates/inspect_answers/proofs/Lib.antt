@@ -12,4 +12,7 @@ mod Meeting
 mod Otherwise
 mod Taken
 mod Keeping
+mod Deciding
+mod Unneeded
+mod TookIdle
 mod Changed

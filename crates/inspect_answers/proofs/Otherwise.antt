@@ -1,29 +1,19 @@
 -- The lines of `expect` are of the packets whose outcome is otherwise than expected.
-use Rattle.std.proofs.Common.{◌≡◌, ◌<◌, ◌↔◌, ◌+◌, ◌==◌, ℕ, zero, suc, Bool, true, false, cond, not, List, [], ◌∷◌, ◌++◌, Option, Some, None, Result, Ok, Err}
+use Rattle.std.proofs.Common.{◌≡◌, ◌<◌, ◌↔◌, ◌+◌, ℕ, zero, suc, Bool, true, false, cond, not, List, [], ◌∷◌, ◌++◌, Some}
 use Rattle.std.proofs.Common.{refl, sym, ap, ◌∙◌, subst, arith, inl, inr, length, flat_map}
-use Rattle.std.specs.Prelude.{◌&&◌, count_by, slice_get, slice_index_or}
-use Rattle.std.specs.List.{All, AllPairs, Any, Contains, list_all}
-use Rattle.std.specs.Io.KnownBytes.{Appends}
-use Rattle.std.proofs.lemmas.Grind.{common_steps}
+use Rattle.std.specs.Prelude.{◌&&◌, slice_get, slice_index_or}
+use Rattle.std.specs.List.{All, AllPairs, Any, Contains}
 use Rattle.std.proofs.lemmas.List.Elements.{All-contains, All-contains_itself, Contains-append_cases, Contains-append_left, Contains-append_right}
 use Rattle.std.proofs.lemmas.List.Kept.{AllPairs-cons}
 use Rattle.std.proofs.lemmas.List.Sums.{AllPass-from_list_all, list_all-from_AllPass, sum_by-cons}
-use Rattle.serde_json.specs.Data.{Data}
-use Rattle.ov_json.specs.Json.{json_of}
 use Rattle.ov_types.proofs.FirstLemmas.{any_of, contains_cases, contains_here, contains_later}
 use Rattle.config_types.specs.declared.config.Config.{Config}
-use Rattle.config_model.specs.Faults.{Fault}
-use Rattle.config_check.specs.Rules.{first_broken}
-use Rattle.config_check.specs.declared.refusal.Refusal.{Refusal}
 use Rattle.reach_plain.specs.Reachability.{reachability}
-use Rattle.inspect_answers.specs.Answers.{Answer, IsAnswer, WasGiven, answer_unless, expect_answer, expect_reading, expect_value, expected_answer, of_json}
-use Rattle.inspect_answers.specs.Expectations.{ExpectInput, Expectation, expect_at}
-use Rattle.inspect_answers.specs.Expecting.{all_met, comes_so, counts_line, expect_text, unmet_count, unmet_from, unmet_line, unmet_text}
+use Rattle.inspect_answers.specs.Expectations.{Expectation}
+use Rattle.inspect_answers.specs.Expecting.{all_met, comes_so, unmet_count, unmet_from, unmet_line}
 use Rattle.inspect_answers.specs.Runs.{status_of}
-use Rattle.inspect_answers.specs.Unmet.{ComesSo, IsExpectedIn, IsUnmet, TookExpected, Unmet, line_text}
-use Rattle.inspect_answers.specs.declared.top.Status.{Status}
+use Rattle.inspect_answers.specs.Unmet.{ComesSo, IsUnmet, Unmet, line_text}
 use Rattle.inspect_answers.specs.declared.top.Status.TheVariants as Ended
-use Rattle.inspect_answers.specs.declared.verdict.Verdict.{Verdict}
 use Rattle.inspect_answers.specs.declared.verdict.Verdict.TheVariants as Found
 use Rattle.inspect_answers.proofs.Meeting.{met_is, is_met_so}
 

@@ -11,13 +11,14 @@ use Rattle.config_check.specs.Finding.{network_named}
 use Rattle.config_check.specs.Rules.{first_broken}
 use Rattle.config_check.specs.declared.refusal.Refusal.{Refusal}
 use Rattle.config_check.specs.declared.refusal.Refusal.TheVariants.{BadReference}
-use Rattle.compile_answers.specs.Answers.{DocumentAnswer, answer_bad, answer_checked, answer_not_json, answer_refused}
+use Rattle.compile_answers.specs.Answers.{DocumentAnswer, answer_bad, answer_checked, answer_good, answer_not_json, answer_refused}
 use Rattle.compile_answers.specs.declared.unfit.Reception.{Reception}
 use Rattle.compile_answers.specs.declared.unfit.Reception.TheVariants as Received
 use Rattle.compile_answers.specs.declared.unfit.Unfit.{Unfit}
 use Rattle.compile_answers.specs.declared.unfit.Unfit.TheVariants as unfit
 use Rattle.inspect_answers.specs.Expectations.{ExpectInput, Expectation, expect_at}
 use Rattle.inspect_answers.specs.Expecting.{all_met, expect_text}
+use Rattle.inspect_answers.specs.IdleLines.{idle_text}
 use Rattle.inspect_answers.specs.Lines.{ways_text}
 use Rattle.inspect_answers.specs.declared.asked.Asked.{Asked}
 use Rattle.inspect_answers.specs.declared.asked.Asked.TheVariants as Asks
@@ -120,7 +121,21 @@ expect_value d = expect_reading (expect_at [] d)
 unfoldable pub expect_answer : List ℕ → Answer
 expect_answer octets = of_json expect_value (json_of octets)
 
+-- what decides nothing, or is not in use, of what was read for `unused`, or not
+abbrev pub unused_reading : Result CompileInput Fault → Answer
+unused_reading (Err f) = judged (answer_bad f)
+unused_reading (Ok p) = answer_unless (first_broken p.topology p.config) (judged (answer_good (idle_text p.config)))
+
+-- of a value
+unfoldable pub unused_value : Data → Answer
+unused_value d = unused_reading (compile_at [] d)
+
+-- what `inspect unused` answers to a document
+unfoldable pub unused_answer : List ℕ → Answer
+unused_answer octets = of_json unused_value (json_of octets)
+
 -- what is answered to a document
 abbrev pub answer : Asked → List ℕ → Answer
 answer (Asks.Ways pairs) octets = ways_answer pairs octets
 answer Asks.Expect octets = expect_answer octets
+answer Asks.Unused octets = unused_answer octets

@@ -15,7 +15,8 @@ is_ways word = pointwise nat_eq word (codes "ways")
 abbrev pub asked_alone : List ℕ → Option Asked
 asked_alone word =
     if is_ways word then Some (Asks.Ways All)
-    else (if pointwise nat_eq word (codes "expect") then Some Asks.Expect else None)
+    else (if pointwise nat_eq word (codes "expect") then Some Asks.Expect
+    else (if pointwise nat_eq word (codes "unused") then Some Asks.Unused else None))
 
 -- the ways between two networks of these names, which differ
 abbrev pub asked_between : Option (List ℕ) → Option (List ℕ) → Option Asked

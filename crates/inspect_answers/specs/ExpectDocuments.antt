@@ -1,11 +1,11 @@
 -- The documents of expectations, and what is said of their written form.
-use Rattle.std.specs.Prelude.{◌≡◌, ℕ, ◌&&◌, ◌∷◌, [], List, Bool, true, false, codes, nat_le, None, Err, Ok}
+use Rattle.std.specs.Prelude.{◌≡◌, ℕ, ◌&&◌, ◌∷◌, [], List, Bool, true, codes, nat_le, None, Err}
 use Rattle.std.specs.List.{list_all}
 use Rattle.serde_json.specs.Data.{Data, member, no_members, object, string}
 use Rattle.serde_json.specs.Find.{as_object, as_str}
 use Rattle.ov_types.specs.Texts.{address_text}
 use Rattle.ov_types.specs.declared.numbers.ServiceNo.{ServiceNo}
-use Rattle.config_model.specs.declared.fault.DocKind.TheVariants.{Kind, Range}
+use Rattle.config_model.specs.declared.fault.DocKind.TheVariants.{Kind}
 use Rattle.config_model.specs.Documents.{config_document, list_document, number_document, topology_document}
 use Rattle.config_model.specs.Laws.{OtherTextIsRange, ReadHasJust, compile_form, fault_at, is_among}
 use Rattle.config_types.specs.Form.{has_packet_form}

@@ -1,10 +1,9 @@
 -- The written form of packets of which something is expected, and of what `expect` takes.
-use Rattle.std.specs.Prelude.{ℕ, ◌∷◌, [], List, Bool, true, codes, Option, Some, None, Result, Ok, if◌then◌else◌}
+use Rattle.std.specs.Prelude.{ℕ, ◌∷◌, [], List, codes, Option, Some, None, Result, Ok, if◌then◌else◌}
 use Rattle.serde_json.specs.Data.{Data}
 use Rattle.serde_json.specs.Find.{as_str}
 use Rattle.ov_types.specs.First.{same_name}
 use Rattle.ov_types.specs.declared.numbers.ServiceNo.{ServiceNo}
-use Rattle.ov_types.specs.declared.packet.Packet.{Packet}
 use Rattle.config_model.specs.declared.fault.DocKind.TheVariants.{Range}
 use Rattle.config_model.specs.declared.fields.Count.TheVariants.{AnyNumber}
 use Rattle.config_model.specs.Config.{config_at}

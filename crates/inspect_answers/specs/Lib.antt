@@ -13,5 +13,9 @@ pub mod Commands
 pub mod Promise
 pub mod Unmet
 pub mod Runs
+pub mod Deciders
+pub mod Idle
+pub mod IdleLines
+pub mod IdleSentences
 pub mod Changes
 pub mod TwoRuns

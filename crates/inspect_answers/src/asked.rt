@@ -20,6 +20,8 @@ pub enum Asked {
     Ways(Pairs),
     /// Which packets have another outcome than is expected.
     Expect,
+    /// Which rules decide nothing, and which policies and chains are not in use.
+    Unused,
 }
 
 /// What the words after the program's name ask of a document: a command and the document's file, and, for `ways`, none
@@ -49,6 +51,7 @@ fn asked_alone(command: &str) -> Option<Asked>
     match command {
         "ways" => Some(Asked::Ways(Pairs::All)),
         "expect" => Some(Asked::Expect),
+        "unused" => Some(Asked::Unused),
         _ => None,
     }
 }

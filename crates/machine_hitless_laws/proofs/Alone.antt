@@ -54,7 +54,7 @@ use Rattle.machine_hitless_laws.proofs.Static.{led_hop, network_row}
 use Rattle.machine_hitless_laws.proofs.Stood.{AreStood, HostStood, LedStood, RowStood}
 
 -- what is attached has a host's prefix
-abbrev IsHost : Block → Type 0
+abbrev pub IsHost : Block → Type 0
 IsHost prefix = (m : ℕ) × (prefix ≡ host_prefix m)
 
 attached_host : (k : LowKey) (v : LowValue) (a : Attachment) → as_attachment k v ≡ Some a → IsHost a.prefix
@@ -67,12 +67,12 @@ attached_host (key.Instance n) v a h = absurd (none_some a h)
 attached_host (key.Acl x b) v a h = absurd (none_some a h)
 attached_host (key.ChainUse u) v a h = absurd (none_some a h)
 
-host_of : (m : Map) (a : Attachment) → Member a (attachments m) → IsHost a.prefix
+pub host_of : (m : Map) (a : Attachment) → Member a (attachments m) → IsHost a.prefix
 host_of m a h =
     let q = from_filter_map (λ (e : LowKey × LowValue). as_attachment e.0 e.1) a (objects m) h in
     attached_host q.0.0 q.0.1 a q.2
 
-one_host : (p q : Block) (d : ℕ) → IsHost p → IsHost q → contains p d ≡ true → contains q d ≡ true → p ≡ q
+pub one_host : (p q : Block) (d : ℕ) → IsHost p → IsHost q → contains p d ≡ true → contains q d ≡ true → p ≡ q
 one_host p q d (m, e) (n, f) c g =
     let a : m ≡ d = host_is m d (ap (λ (x : Block). contains x d) (sym e) ∙ c) in
     let b : n ≡ d = host_is n d (ap (λ (x : Block). contains x d) (sym f) ∙ g) in

@@ -52,6 +52,7 @@ use Rattle.machine_hitless_laws.specs.Common.{NothingElseLeads, NothingElseLeads
 use Rattle.machine_hitless_laws.specs.Windows.{AtMomentsOfWindows, configurations}
 use Rattle.machine_hitless_laws.proofs.Alone.{alone_in_networks}
 use Rattle.machine_hitless_laws.proofs.Here.{stands_among}
+use Rattle.machine_hitless_laws.proofs.LedAlone.{nothing_else_leads}
 use Rattle.machine_hitless_laws.proofs.Moments.{all_are_written, every_moment, first_one, others}
 use Rattle.machine_hitless_laws.proofs.Routes.{what_is_common_stays}
 
@@ -197,9 +198,9 @@ present_stands size positive x written before asked begins es window form =
     let valid = all_are_written size positive x written before asked begins es window form in
     (all.0.is_written, λ n stays. stands_among b ds valid n stays (checked w.setup) all.0.among)
 
-pub go_the_common_way : AtMomentsOfWindows (λ cs w. NothingElseLeads cs w → GoesTheCommonWay cs w)
-go_the_common_way size positive x written before asked begins es window form alone =
+pub go_the_common_way : AtMomentsOfWindows GoesTheCommonWay
+go_the_common_way size positive x written before asked begins es window form =
     let now = present_stands size positive x written before asked begins es window form in
     let w = after size (after size (start x) before) es in
     let cs = configurations size (after size (start x) before) es in
-    goes_the_common_way cs w now.0 now.1 (what_is_common_stays size positive x written before asked begins es window form) alone
+    goes_the_common_way cs w now.0 now.1 (what_is_common_stays size positive x written before asked begins es window form) (nothing_else_leads size positive x written before asked begins es window form)

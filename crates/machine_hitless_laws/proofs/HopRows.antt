@@ -74,7 +74,7 @@ circuit_is s d = by s.is_right
 
 -- two sides of a valid feed that have one subnet and one instance have one direction
 module _ (feed : Map) (sound : IsSound feed) where
-  one_number : (s t : Side) (d e : ℕ) → Member s (sides feed) → Member t (sides feed) → d ≤ s.chain.services → e ≤ t.chain.services → hop_at s d ≡ hop_at t e → s.chain ≡ t.chain
+  pub one_number : (s t : Side) (d e : ℕ) → Member s (sides feed) → Member t (sides feed) → d ≤ s.chain.services → e ≤ t.chain.services → hop_at s d ≡ hop_at t e → s.chain ≡ t.chain
   one_number s t d e m n g h same =
       same_use feed s.chain t.chain (side_use feed s m) (side_use feed t n)
       (sym (use_of-hop s.chain.number (place_at s d) (place_short feed s d sound.ordered m g)) ∙ ap use_of same ∙ use_of-hop t.chain.number (place_at t e) (place_short feed t e sound.ordered n h))
@@ -109,11 +109,11 @@ module _ (b : Checked) (ds : List Checked) (written : (c : Checked) → Member c
   abbrev M : Map
   M = common cs
 
-  sound_of : (c : Checked) → Member c cs → IsSound (low_in c)
+  pub sound_of : (c : Checked) → Member c cs → IsSound (low_in c)
   sound_of c m = (sound_setup (opening c) (written c m)).sound
 
   -- what a place imports in some configuration it imports in the common part
-  imports_back : (i k n : InstanceId) → is_hop i ≡ true → Member k (imports M i) → (c : Checked) → Member c cs → Member n (imports (low_in c) i) → Member n (imports M i)
+  pub imports_back : (i k n : InstanceId) → is_hop i ≡ true → Member k (imports M i) → (c : Checked) → Member c cs → Member n (imports (low_in c) i) → Member n (imports M i)
   imports_back i k n hop some c m h = by (is_hop i) hop some h
     where
       of_use : (o : Option LowValue) → object M (key.ChainUse (use_of i)) ≡ o → Member k (hop_imports (place_of i) (use_from (use_of i) o)) → Member n (hop_imports (place_of i) (use_from (use_of i) (object (low_in c) (key.ChainUse (use_of i))))) → Member n (hop_imports (place_of i) (use_from (use_of i) o))
@@ -129,7 +129,7 @@ module _ (b : Checked) (ds : List Checked) (written : (c : Checked) → Member c
       by false e some h = absurd (true≢false (sym e))
 
   -- the place into which it is led
-  led_into : (name : Name) (n i : InstanceId) (p : Block) (label : LabelNo) → (l : LedStood cs name n p label) → Member n (imports M i) → hop_at l.side (suc l.depth) ≡ i
+  pub led_into : (name : Name) (n i : InstanceId) (p : Block) (label : LabelNo) → (l : LedStood cs name n p label) → Member n (imports M i) → hop_at l.side (suc l.depth) ≡ i
   led_into name n i p label l imported =
       imported_hop (low_in l.config) i l.side (suc l.depth) (sound_of l.config l.among) l.of_use l.within (subst (λ (n : InstanceId). Member n (imports (low_in l.config) i)) (sym l.instance) (imported_in b ds written i n imported l.config l.among))
 
@@ -155,10 +155,10 @@ module _ (b : Checked) (ds : List Checked) (written : (c : Checked) → Member c
 
   -- ---- subnets
   module _ (i : InstanceId) (p : Block) (row : TableRow) (t : SubnetRow M i p row) where
-    itself : Member i (imports M i)
+    pub itself : Member i (imports M i)
     itself = subst (λ (i : InstanceId). Member i (imports M i)) t.at (imports_itself M t.side (suc t.d) (ordered b ds written) t.of_use t.within)
 
-    above : (c : Checked) → Member c cs → SideAbove (low_in c) t.side
+    pub above : (c : Checked) → Member c cs → SideAbove (low_in c) t.side
     above c m = side_above M (low_in c) (common_is_part b ds c m) t.side t.of_use
 
     no_host : (name : Name) (n : InstanceId) (label : LabelNo) → Member n (imports M i) → HostStood cs name n p label → ⊥

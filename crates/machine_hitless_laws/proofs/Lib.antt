@@ -23,4 +23,6 @@ pub mod Moments
 pub mod Rows
 pub mod Routes
 pub mod Alone
+pub mod InUses
+pub mod LedAlone
 pub mod Arriving

@@ -27,14 +27,19 @@ pub fn common_routes_of_networks_lead_alone()
     ensures { AtMomentsOfWindows NothingElseLeadsInNetworks }
 {}
 
+/// In no other instance has it one either: in that of a place of a use, too, each address of a common route goes by that route.
+pub fn common_routes_lead_alone()
+    ensures { AtMomentsOfWindows NothingElseLeads }
+{}
+
 /// So a packet that is looked up in the instance of a network, at any moment of any window, is delivered to the port that the
 /// common part leads it to there: whatever is under way meanwhile.
 pub fn packets_arrive_where_common_routes_lead()
     ensures { AtMomentsOfWindows ArrivesInNetworks }
 {}
 
-/// And where nothing else leads in the instances of uses either, each packet goes the whole way that the common part leads
-/// it: through just the services of that way, in order, to the port at its end.
+/// And each packet goes the whole way that the common part leads it: through just the services of that way, in order, to the
+/// port at its end.
 pub fn packets_go_the_common_way()
-    ensures { AtMomentsOfWindows (λ cs w. NothingElseLeads cs w → GoesTheCommonWay cs w) }
+    ensures { AtMomentsOfWindows GoesTheCommonWay }
 {}

@@ -3,7 +3,7 @@ use Rattle.ov_io.specs.Inputs.{TookFront}
 use Rattle.ov_io.specs.Pieces.{IsOnItsWay}
 use Rattle.ov_io.proofs.PieceLemmas.{on_err, way_cut, way_ends}
 use Rattle.compile_answers.proofs.Ways.{front_then, way_then}
-use Rattle.inspect_answers.specs.Expecting.{all_met, counts_line, expect_text, unmet_count, unmet_from}
+use Rattle.inspect_answers.specs.Expecting.{all_met, counts_line, expect_text, unmet_from}
 use Rattle.inspect_answers.specs.declared.verdict.Verdict.TheVariants.{Good, Differs}
 use Rattle.inspect_answers.proofs.Counting.{none_counted, not_none}
 use Rattle.inspect_answers.proofs.expecting.write_expected.Goals as goal

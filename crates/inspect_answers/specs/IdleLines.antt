@@ -1,0 +1,36 @@
+-- The lines of what decides nothing, or is not in use.
+use Rattle.std.specs.Prelude.{ℕ, List, [], ◌∷◌, ◌++◌, codes, decimal, flat_map}
+use Rattle.ov_types.specs.Rows.{rule_text}
+use Rattle.ov_types.specs.declared.packet.RuleNo.{RuleNo}
+use Rattle.config_types.specs.declared.config.Config.{Config}
+use Rattle.report.specs.Lists.{list_text}
+use Rattle.inspect_answers.specs.Idle.{idle}
+use Rattle.inspect_answers.specs.declared.idle.Idle.{Idle}
+use Rattle.inspect_answers.specs.declared.idle.Idle.TheVariants.{Rule, Policy, Chain}
+
+-- rules with commas between them, and `-` where there are none
+unfoldable pub rules_text : List RuleNo → List ℕ
+rules_text rules = list_text rule_text rules
+
+-- a rule, and those that stand before it
+abbrev pub rule_words : RuleNo → List RuleNo → List ℕ
+rule_words rule before = codes "rule " ++ (rule_text rule ++ (codes " unused behind " ++ rules_text before))
+
+unfoldable pub rule_line : RuleNo → List RuleNo → List ℕ
+rule_line rule before = rule_words rule before ++ (10 ∷ [])
+
+-- a policy, and how many networks attach it
+unfoldable pub policy_line : List ℕ → ℕ → List ℕ
+policy_line name networks = codes "policy " ++ (name ++ (codes " attached by " ++ (decimal networks ++ (10 ∷ []))))
+
+unfoldable pub chain_line : List ℕ → List ℕ
+chain_line name = codes "chain " ++ (name ++ (codes " unused" ++ (10 ∷ [])))
+
+abbrev pub idle_line : Idle → List ℕ
+idle_line (Rule rule before) = rule_line rule before
+idle_line (Policy name networks) = policy_line name networks
+idle_line (Chain name) = chain_line name
+
+-- what `inspect unused` writes of a valid configuration
+abbrev pub idle_text : Config → List ℕ
+idle_text c = flat_map idle_line (idle c)
