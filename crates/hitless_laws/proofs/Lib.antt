@@ -15,3 +15,4 @@ pub mod Visits
 pub mod Around
 pub mod Changes
 pub mod Hands
+pub mod Speaking

@@ -49,7 +49,7 @@ stops_of t c v (s ∷ ss) inside_c =
 pub decider_stands : (c : Config) (a b : Network) (t : Tuple) (m : Match) → IsDeciding c a b t m → IsBetween c a b m.rule
 decider_stands c a b t m h = (between_iff c a b m.rule).0 (contains_at (rules_between c a b) h.place m.rule h.stands)
 
-speaks : (a b : Network) (t : Tuple) (r : Rule) (mirrored : Bool) → IsTaken a b t r mirrored → SpeaksOf a b r mirrored
+pub speaks : (a b : Network) (t : Tuple) (r : Rule) (mirrored : Bool) → IsTaken a b t r mirrored → SpeaksOf a b r mirrored
 speaks a b t r false h = (h.source, h.destination)
 speaks a b t r true h = (h.0.both_ways, (h.0.source, h.0.destination))
 

@@ -51,7 +51,7 @@ one_giver {A} {B} f (z ∷ zs) h a b u in_a in_b at_a at_b =
     by again (Some w) e distinct (inr later) (inl second) = absurd (apart w e distinct a (ap f second ∙ at_b) at_a later)
     by again (Some w) e distinct (inr early) (inr late) = again (pairs_tail (λ m n. m ≢ n) w (filter_map f zs) distinct) early late
 
-among_all : (c : Config) (a b : Network) (r : NumberedRule) → IsBetween c a b r → Contains (all_rules c) r
+pub among_all : (c : Config) (a b : Network) (r : NumberedRule) → IsBetween c a b r → Contains (all_rules c) r
 among_all c a b r h =
     All-contains (Contains (all_rules c)) (rules_between c a b) r (all_between (Contains (all_rules c)) c a b (All-contains_itself (all_rules c))) ((between_iff c a b r).1 h)
 

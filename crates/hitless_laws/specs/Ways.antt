@@ -1,6 +1,6 @@
 -- By which way a configuration leads a packet to a port, and which ways it offers, whatever the packet's tuple and whatever
 -- the order of rules.
-use Rattle.std.specs.Prelude.{◌≡◌, ◌≢◌, ℕ, Bool, true, false, IsTrue, List, [], map, reverse, Option, Some, None}
+use Rattle.std.specs.Prelude.{◌≡◌, ◌≢◌, ◌≤◌, ℕ, Bool, true, false, IsTrue, List, [], map, reverse, Option, Some, None}
 use Rattle.std.specs.List.{AllZip, Contains}
 use Rattle.ov_types.specs.Prefix.{Block, contains}
 use Rattle.ov_types.specs.declared.numbers.InstanceId.{InstanceId}
@@ -95,6 +95,10 @@ pub record IsStop (t : Topology) (s : Service) (stop : ServiceNo × Node) : Type
 abbrev pub SpeaksOf : Network → Network → Rule → Bool → Type 0
 SpeaksOf own target r false = Fits r own target
 SpeaksOf own target r true = (r.direction ≡ BothWays) × Fits r target own
+
+-- a rule's ranges of ports have some port each
+abbrev pub HasPorts : Rule → Type 0
+HasPorts r = (r.source_ports.lo ≤ r.source_ports.hi) × (r.destination_ports.lo ≤ r.destination_ports.hi)
 
 -- the chain rule of a use stands between two networks and speaks of packets from the one into the other; its chain's services
 -- stand at these nodes, and this subnet of the second holds the packet's destination

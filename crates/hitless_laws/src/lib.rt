@@ -2,14 +2,20 @@
 //! laws. Each is the contract of a function that does nothing.
 #![tactic(auto)]
 
-ghost use Rattle.std.specs.Prelude.{◌≡◌, ◌↔◌, IsTrue, List, [], ◌∷◌, None};
+ghost use Rattle.std.specs.Prelude.{◌≡◌, ◌≢◌, ◌↔◌, ℕ, Bool, IsTrue, List, [], ◌∷◌, None};
 ghost use Rattle.ov_types.specs.declared.numbers.PortNo.{PortNo};
 ghost use Rattle.ov_types.specs.declared.packet.Outcome.TheVariants.{Delivered};
 ghost use Rattle.ov_types.specs.declared.packet.Packet.{Packet};
+ghost use Rattle.ov_types.specs.declared.packet.Tuple.{Tuple};
 ghost use Rattle.config_types.specs.Form.{has_edit_form};
+ghost use Rattle.config_types.specs.declared.config.Action.TheVariants.{Through};
+ghost use Rattle.config_types.specs.declared.config.Network.{Network};
 ghost use Rattle.config_types.specs.declared.edit.Edit.{Edit};
 ghost use Rattle.config_types.specs.declared.edit.Object.TheVariants as Objects;
 ghost use Rattle.config_types.specs.declared.edit.ObjectKind.TheVariants as Kinds;
+ghost use Rattle.policy_rules.specs.Standing.{IsBetween};
+ghost use Rattle.policy_rules.specs.Taking.{IsTaken};
+ghost use Rattle.policy_rules.specs.declared.numbered.NumberedRule.{NumberedRule};
 ghost use Rattle.config_check.specs.Checked.{Checked};
 ghost use Rattle.config_check.specs.EditLaws.{chains_of, networks_of, nodes_of, policies_of, ports_of, services_of};
 ghost use Rattle.config_check.specs.Edits.{chain_name, network_name, node_name, policy_name, port_name};
@@ -18,7 +24,7 @@ ghost use Rattle.reach_plain.specs.Reachability.{reachability};
 ghost use Rattle.hitless_laws.specs.Hands.{KeepsInHand};
 ghost use Rattle.hitless_laws.specs.Keeping.{Delivers, IsValidAsWritten, Keep, OfferAlike};
 ghost use Rattle.hitless_laws.specs.Kinds.{DeleteIsHitless, NewIsHitless};
-ghost use Rattle.hitless_laws.specs.Ways.{LeadsTo, Offers, Track, Way, visited};
+ghost use Rattle.hitless_laws.specs.Ways.{HasPorts, LeadsTo, Offers, SpeaksOf, Track, Way, visited};
 
 /// A configuration leads a packet to a port by some way exactly where it delivers it there.
 pub fn packets_are_led_where_they_are_delivered()
@@ -36,6 +42,16 @@ pub fn packets_are_led_by_one_way()
 pub fn ways_that_are_taken_are_offered()
     ensures { (x : Checked) (p : Packet) (number : PortNo) (way : Way) → IsValidAsWritten x
         → LeadsTo x.config p number way → (track : Track) × Offers x p number way track }
+{}
+
+/// A chain rule that stands between two networks, and has some ports, speaks of packets from the one into the other, forwards
+/// or mirrored, exactly where there is a tuple for which it is taken so. So a use is offered in a direction exactly where some
+/// tuple would be led through it in that direction, came its rule first.
+pub fn uses_are_offered_where_they_could_be_taken()
+    ensures { (x : Checked) (own target : Network) (r : NumberedRule) (chain : List ℕ) (use_no : ℕ) (mirrored : Bool)
+        → IsValidAsWritten x → IsBetween x.config own target r → r.rule.action ≡ Through chain use_no → HasPorts r.rule
+        → own.name ≢ target.name
+        → SpeaksOf own target r.rule mirrored ↔ ((t : Tuple) × IsTaken own target t r.rule mirrored) }
 {}
 
 /// It offers a way with one track alone.

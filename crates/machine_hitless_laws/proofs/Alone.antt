@@ -29,9 +29,8 @@ use Rattle.node_laws.proofs.NodeModel.Heard.{route_is}
 use Rattle.node_laws.proofs.NodeModel.Members.{from_filter_map, none_some}
 use Rattle.node_laws.proofs.NodeModel.Objects.{is_hop-hop}
 use Rattle.node_laws.proofs.NodeModel.Places.{is_hop-network}
-use Rattle.machine_model.specs.Events.{after}
 use Rattle.machine_model.specs.Moments.{Each, nodes}
-use Rattle.machine_model.specs.Network.{agent_holdings, sessions_of, start}
+use Rattle.machine_model.specs.Network.{agent_holdings, sessions_of}
 use Rattle.machine_model.specs.Session.{Session}
 use Rattle.machine_model.specs.Setup.{Setup, low_in, opening}
 use Rattle.machine_model.proofs.OvSync.KeyedLaws.{empty_values}
@@ -41,12 +40,9 @@ use Rattle.machine_laws.specs.Headline.{IsWritten}
 use Rattle.machine_laws.proofs.Views.{views}
 use Rattle.machine_laws.proofs.Wants.{agent_holds}
 use Rattle.machine_laws.proofs.Written.{sound_setup}
-use Rattle.machine_hitless_laws.specs.Common.{ChangesHands, NothingElseLeadsInNetworks, common, rows_at, standing}
-use Rattle.machine_hitless_laws.specs.Windows.{AtMomentsOfWindows}
+use Rattle.machine_hitless_laws.specs.Common.{ChangesHands, common, standing}
 use Rattle.machine_hitless_laws.proofs.Here.{Here}
 use Rattle.machine_hitless_laws.proofs.InUse.{mine_own}
-use Rattle.machine_hitless_laws.proofs.Lasting.{IsKept}
-use Rattle.machine_hitless_laws.proofs.Moments.{all_are_written, every_moment, first_one, others}
 use Rattle.machine_hitless_laws.proofs.OfSome.{AreOfSome}
 use Rattle.machine_hitless_laws.proofs.Routes.{IsCompiled, compiled_is, host_hop, route_at}
 use Rattle.machine_hitless_laws.proofs.Says.{Mine, StaysTo}
@@ -155,18 +151,3 @@ module _ (b : Checked) (ds : List Checked) (written : (c : Checked) → Member c
               λ k. route_at i (at k) (host_hop b ds written r x ss here lasting_stays some st n stays h.to c.row hop other h.row c.hop_is leads k)
           | inr h ↦ absurd (true≢false (sym (ap is_hop (sym h.at) ∙ is_hop-hop h.side.chain.number _) ∙ net))
         ]
-
-pub alone_in_networks : AtMomentsOfWindows NothingElseLeadsInNetworks
-alone_in_networks size positive x written before asked begins es window form n stays =
-    let all = every_moment size positive x written before asked begins es window form in
-    let w = after size (after size (start x) before) es in
-    let b = first_one size positive x written before asked begins es window form in
-    let ds = others size positive x written before asked begins es window form in
-    let valid = all_are_written size positive x written before asked begins es window form in
-    let kept = IsKept b ds valid in
-    record {
-      alone = λ r s d net m keeps there same in_r in_s.
-          (λ i. ((same i, s.0.1), s.1)) ∙ alone_in_network b ds valid 5 w.setup w.sessions all.0
-          (each_weaker kept (StaysTo b ds valid 5) (λ s f. f.0 5) w.sessions all.1) (each_weaker kept (AreOfSome (b ∷ ds)) (λ s f. f.1.0) w.sessions all.1) (each_weaker kept (AreStood (b ∷ ds) b.topology.asn 4) (λ s f. f.1.1) w.sessions all.1) n stays
-          r.0.0 r.0.1 s.0.1 r.1 s.1 d net m keeps (subst (λ (i : InstanceId). Member (route_at i s.0.1 s.1) (rows_at w n).routes) same there) in_r in_s;
-    }

@@ -1,9 +1,7 @@
 -- At every moment of a window agents lead an address on where the common part leads it.
-use Rattle.std.specs.Prelude.{◌≡◌, ◌==◌, ◌<◌, ◌++◌, ℕ, zero, suc, List, [], ◌∷◌, length, map, true, false, cond}
+use Rattle.std.specs.Prelude.{◌≡◌, ◌==◌, ◌++◌, ℕ, zero, suc, List, [], ◌∷◌, true, false, cond}
 use Rattle.std.specs.List.{Contains, filter_map, find}
-use Rattle.std.specs.FinMap.{get}
 use Rattle.std.specs.Option.{option_map}
-use Rattle.std.specs.declared.option.Option.{Option}
 use Rattle.std.specs.declared.option.Option.TheVariants.{None, Some}
 use Rattle.std.proofs.Common.{ap, append-nil, append_assoc, arith, refl, subst, sym, ◌∙◌}
 use Rattle.std.proofs.lemmas.Bool.{eq-eqb, eqb-true}
@@ -12,7 +10,6 @@ use Rattle.ov_types.specs.Prefix.{Block, contains}
 use Rattle.ov_types.specs.Routing.{longest}
 use Rattle.ov_types.specs.declared.numbers.InstanceId.{InstanceId}
 use Rattle.ov_types.specs.declared.numbers.Label.{Label as LabelNo}
-use Rattle.ov_types.specs.declared.numbers.PortNo.{PortNo}
 use Rattle.ov_types.specs.declared.numbers.ServiceNo.{ServiceNo}
 use Rattle.ov_types.specs.declared.objects.LowKey.{LowKey}
 use Rattle.ov_types.specs.declared.objects.LowKey.TheVariants as key
@@ -35,22 +32,19 @@ use Rattle.transform_forwarding_laws.proofs.Lists.{only_longest}
 use Rattle.transform_forwarding_laws.proofs.Valid.{one_node_at}
 use Rattle.node_laws.specs.NodeModel.Agent as agent
 use Rattle.node_laws.specs.NodeModel.Agent.{attached, slice_in_use}
-use Rattle.node_laws.specs.NodeModel.Keys.{Low}
-use Rattle.node_laws.specs.NodeModel.Maps.{Map, objects}
+use Rattle.node_laws.specs.NodeModel.Maps.{objects}
 use Rattle.node_laws.specs.NodeModel.Members.{Member}
-use Rattle.node_laws.specs.NodeModel.Uses.{is_hop}
 use Rattle.node_laws.specs.NodeModel.Values.{Object}
 use Rattle.node_laws.proofs.NodeModel.Members.{contains_of, from_filter_map, from_map, in_filter_map, in_map, member_of, none_some}
 use Rattle.node_laws.proofs.NodeModel.Objects.{object_of}
 use Rattle.machine_model.specs.Events.{after, forwarders}
 use Rattle.machine_model.specs.Events.{agent_rows as held_by_agent}
 use Rattle.machine_model.specs.Network.{MachineState, start}
-use Rattle.machine_model.specs.Setup.{Setup, checked}
+use Rattle.machine_model.specs.Setup.{checked}
 use Rattle.machine_laws.specs.Headline.{IsWritten}
-use Rattle.machine_hitless_laws.specs.Arriving.{ArrivesInNetworks, GoesTheCommonWay, IsCommonWay, LeadsInCommon, StandsNow, agent_at_node}
-use Rattle.machine_hitless_laws.specs.Common.{NothingElseLeads, NothingElseLeadsInNetworks, WhatIsCommonStays, rows_at, standing}
+use Rattle.machine_hitless_laws.specs.Arriving.{GoesTheCommonWay, LeadsInCommon, StandsNow, agent_at_node}
+use Rattle.machine_hitless_laws.specs.Common.{NothingElseLeads, WhatIsCommonStays, rows_at}
 use Rattle.machine_hitless_laws.specs.Windows.{AtMomentsOfWindows, configurations}
-use Rattle.machine_hitless_laws.proofs.Alone.{alone_in_networks}
 use Rattle.machine_hitless_laws.proofs.Here.{stands_among}
 use Rattle.machine_hitless_laws.proofs.LedAlone.{nothing_else_leads}
 use Rattle.machine_hitless_laws.proofs.Moments.{all_are_written, every_moment, first_one, others}
@@ -87,7 +81,7 @@ leads rows i d r there at holds alone =
     ap (option_map (λ (x : Block × RouteEntry). x.1)) found
 
 -- ---- what stands under a label
-one_object : (h : agent.Holdings) (k : LowKey) (v w : LowValue) → Member (k, v) (slice_in_use h) → Member (k, w) (slice_in_use h) → v ≡ w
+pub one_object : (h : agent.Holdings) (k : LowKey) (v w : LowValue) → Member (k, v) (slice_in_use h) → Member (k, w) (slice_in_use h) → v ≡ w
 one_object [] k v w in_v in_w = absurd in_v
 one_object (s ∷ h) k v w in_v in_w =
     elim s.is_up as (λ b. Member (k, v) (cond b (objects s.map) (slice_in_use h)) → Member (k, w) (cond b (objects s.map) (slice_in_use h)) → v ≡ w) [
@@ -97,7 +91,7 @@ one_object (s ∷ h) k v w in_v in_w =
       | false ↦ λ in_v in_w. one_object h k v w in_v in_w
     ] in_v in_w
 
-key_of : (k : LowKey) (v : LowValue) (e : LabelNo × Attached) → attached k v ≡ Some e → k ≡ key.Attach e.0.0
+pub key_of : (k : LowKey) (v : LowValue) (e : LabelNo × Attached) → attached k v ≡ Some e → k ≡ key.Attach e.0.0
 key_of (key.Attach n) (low.AttachPort p i x d) e h = ap (λ (e : LabelNo × Attached). key.Attach e.0.0) (same_Some (record { 0 = n }, Port p i) e h)
 key_of (key.Attach n) (low.AttachCircuit c s d) e h = ap (λ (e : LabelNo × Attached). key.Attach e.0.0) (same_Some (record { 0 = n }, Circuit c s) e h)
 key_of (key.Attach n) (low.Instance is) e h = absurd (none_some e h)
@@ -107,7 +101,7 @@ key_of (key.Instance n) v e h = absurd (none_some e h)
 key_of (key.Acl a b) v e h = absurd (none_some e h)
 key_of (key.ChainUse u) v e h = absurd (none_some e h)
 
-labelled : (h : agent.Holdings) (label : LabelNo) (what : Attached) → Member (label, what) (agent.rows h).labels → under (agent.rows h) label ≡ Some what
+pub labelled : (h : agent.Holdings) (label : LabelNo) (what : Attached) → Member (label, what) (agent.rows h).labels → under (agent.rows h) label ≡ Some what
 labelled h label what there =
     let labels : List (LabelNo × Attached) = (agent.rows h).labels in
     let slice : List (LowKey × LowValue) = slice_in_use h in
@@ -138,56 +132,26 @@ agent_is w written n there address at =
 
 -- ---- the walk
 -- where the common part leads an address, the agents do
-module _ (cs : List Checked) (w : MachineState) (written : IsWritten w.setup) (among : StandsNow cs w) where
-  steps : (n next : Node) (i : InstanceId) (d : ℕ) (what : Attached) (left : ℕ) (before : List ServiceNo) → (h : LeadsInCommon cs n i d next what)
-      → Member h.route (rows_at w n).routes
-      → ((s : Route) → Member s (rows_at w n).routes → s.0.0 ≡ h.route.0.0 → contains s.0.1 d ≡ true → s ≡ h.route)
-      → Member (h.route.1.label, what) (rows_at w next).labels
+module _ (cs : List Checked) (w : MachineState) (written : IsWritten w.setup) (among : StandsNow cs w) (stays : WhatIsCommonStays cs w) (alone : NothingElseLeads cs w) where
+  one_step : (n next : Node) (i : InstanceId) (d : ℕ) (what : Attached) (left : ℕ) (before : List ServiceNo) → LeadsInCommon cs n i d next what
       → walk (forwarders w) d (suc left) (agent_at_node w n) before i ≡ visited (walk (forwarders w) d left (agent_at_node w next)) before (Some what)
-  steps n next i d what left before h there alone label =
+  one_step n next i d what left before h =
       let r : Route = h.route in
       let again : Forwarder → List ServiceNo → InstanceId → Outcome = walk (forwarders w) d left in
-      let found : looked_up (rows_at w n) i d ≡ Some r.1 = leads (rows_at w n) i d r there h.instance h.holds alone in
+      let there : Member r (rows_at w n).routes = (stays n h.stays).routes r h.is_route h.in_hand in
+      let found : looked_up (rows_at w n) i d ≡ Some r.1 = leads (rows_at w n) i d r there h.instance h.holds (λ s in_s same hits. (alone n h.stays).alone r s d h.is_route h.in_hand in_s same h.holds hits) in
       let next_is : agent_at (forwarders w) r.1.next_hop ≡ Some (agent_at_node w next) = agent_is w written next (among next h.next_stays) r.1.next_hop h.hop in
-      let label_is : under (rows_at w next) r.1.label ≡ Some what = labelled (held_by_agent w next.name) r.1.label what label in
+      let label_is : under (rows_at w next) r.1.label ≡ Some what = labelled (held_by_agent w next.name) r.1.label what ((stays next h.next_stays).labels (r.1.label, what) h.label) in
       ap (followed again (forwarders w) before) found ∙ ap (handed again before r.1.label) next_is ∙ ap (visited (again (agent_at_node w next)) before) label_is
 
-  module _ (stays : WhatIsCommonStays cs w) (alone : NothingElseLeads cs w) where
-    one_step : (n next : Node) (i : InstanceId) (d : ℕ) (what : Attached) (left : ℕ) (before : List ServiceNo) → LeadsInCommon cs n i d next what
-        → walk (forwarders w) d (suc left) (agent_at_node w n) before i ≡ visited (walk (forwarders w) d left (agent_at_node w next)) before (Some what)
-    one_step n next i d what left before h =
-        steps n next i d what left before h
-        ((stays n h.stays).routes h.route h.is_route h.in_hand)
-        (λ s in_s same hits. (alone n h.stays).alone h.route s d h.is_route h.in_hand in_s same h.holds hits)
-        ((stays next h.next_stays).labels (h.route.1.label, what) h.label)
-
-    pub goes_the_common_way : GoesTheCommonWay cs w
-    goes_the_common_way n i d services q way zero before few = absurd (omega arith)
-    goes_the_common_way n i d [] q way (suc left) before few =
-        one_step n way.0 i d (Port q way.1) left before way.2 ∙ ap (Delivered q) (sym (append-nil before))
-    goes_the_common_way n i d (s ∷ services) q way (suc left) before few =
-        one_step n way.0 i d (Circuit way.1 s) left before way.2
-        ∙ goes_the_common_way way.0 (circuit_instance_of (other_side_of way.1)) d services q way.3 left (before ++ s ∷ []) (omega arith)
-        ∙ ap (Delivered q) (append_assoc before (s ∷ []) services)
-
-  pub arrives_in_networks : WhatIsCommonStays cs w → NothingElseLeadsInNetworks cs w → ArrivesInNetworks cs w
-  arrives_in_networks stays alone n next i home d q network h left before =
-      let net : is_hop h.route.0.0 ≡ false = ap is_hop h.instance ∙ network in
-      steps n next i d (Port q home) left before h
-      ((stays n h.stays).routes h.route h.is_route h.in_hand)
-      (λ s in_s same hits. (alone n h.stays).alone h.route s d net h.is_route h.in_hand in_s same h.holds hits)
-      ((stays next h.next_stays).labels (h.route.1.label, Port q home) h.label)
-
-pub arrive_in_networks : AtMomentsOfWindows ArrivesInNetworks
-arrive_in_networks size positive x written before asked begins es window form =
-    let all = every_moment size positive x written before asked begins es window form in
-    let w = after size (after size (start x) before) es in
-    let b = first_one size positive x written before asked begins es window form in
-    let ds = others size positive x written before asked begins es window form in
-    let valid = all_are_written size positive x written before asked begins es window form in
-    arrives_in_networks (b ∷ ds) w all.0.is_written (λ n stays. stands_among b ds valid n stays (checked w.setup) all.0.among)
-    (what_is_common_stays size positive x written before asked begins es window form)
-    (alone_in_networks size positive x written before asked begins es window form)
+  pub goes_the_common_way : GoesTheCommonWay cs w
+  goes_the_common_way n i d services q way zero before few = absurd (omega arith)
+  goes_the_common_way n i d [] q way (suc left) before few =
+      one_step n way.0 i d (Port q way.1) left before way.2 ∙ ap (Delivered q) (sym (append-nil before))
+  goes_the_common_way n i d (s ∷ services) q way (suc left) before few =
+      one_step n way.0 i d (Circuit way.1 s) left before way.2
+      ∙ goes_the_common_way way.0 (circuit_instance_of (other_side_of way.1)) d services q way.3 left (before ++ s ∷ []) (omega arith)
+      ∙ ap (Delivered q) (append_assoc before (s ∷ []) services)
 
 pub present_stands : AtMomentsOfWindows (λ cs w. IsWritten w.setup × StandsNow cs w)
 present_stands size positive x written before asked begins es window form =

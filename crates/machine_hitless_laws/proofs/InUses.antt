@@ -1,21 +1,18 @@
 -- Where the common part leads an address in the instance of a place of a use, an agent leads it nowhere else: in each
 -- configuration one subnet of one network of the use holds the address, and nothing that is attached there.
-use Rattle.std.specs.Prelude.{◌≡◌, ◌<◌, ◌≤◌, ◌⊎◌, ℕ, suc, Bool, List, ◌∷◌, map, true, false, cond}
-use Rattle.std.proofs.Common.{ap, arith, inl, inr, refl, subst, sym, ◌∙◌}
+use Rattle.std.specs.Prelude.{◌≡◌, ◌<◌, ◌⊎◌, ℕ, suc, Bool, List, ◌∷◌, true, false, cond}
+use Rattle.std.proofs.Common.{ap, arith, inl, inr, subst, sym, ◌∙◌}
 use Rattle.std.proofs.lemmas.Bool.{true≢false}
 use Rattle.ov_types.specs.Prefix.{Block, contains, is_inside}
 use Rattle.ov_types.specs.declared.numbers.InstanceId.{InstanceId}
 use Rattle.ov_types.specs.declared.numbers.Label.{Label as LabelNo}
 use Rattle.ov_types.specs.declared.prefix.Addr.{Addr}
-use Rattle.ov_types.specs.declared.rows.Entry.{Entry as RouteEntry}
 use Rattle.ov_types.specs.declared.rows.TableRow.{TableRow}
 use Rattle.ov_types.proofs.FirstLemmas.{any_of}
-use Rattle.config_types.specs.declared.topology.Node.{Node}
 use Rattle.run_ties.specs.ConfigCheck.Checked.{Checked}
 use Rattle.run_ties.specs.ConfigCheck.Sentences.{IsValid}
 use Rattle.run_ties.proofs.ConfigCheck.Validity.{valid_iff}
 use Rattle.transform_forwarding_laws.proofs.Blocks.{host_is, one_subnet}
-use Rattle.node_laws.specs.NodeModel.Agent as agent
 use Rattle.node_laws.specs.NodeModel.Maps.{Map}
 use Rattle.node_laws.specs.NodeModel.Members.{Member}
 use Rattle.node_laws.specs.NodeModel.Reaching.{Side, hop_at, sides, subnets}

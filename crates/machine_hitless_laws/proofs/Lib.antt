@@ -26,3 +26,6 @@ pub mod Alone
 pub mod InUses
 pub mod LedAlone
 pub mod Arriving
+pub mod Admitting
+pub mod Starting
+pub mod ByOne

@@ -1,5 +1,5 @@
 -- What a node holds of its feed and of its peers, and the members of a numbered list.
-use Rattle.std.specs.Prelude.{◌≡◌, ◌+◌, ℕ, List, [], ◌∷◌, map, true, false, cond}
+use Rattle.std.specs.Prelude.{◌+◌, ℕ, List, [], ◌∷◌, map, true, false, cond}
 use Rattle.std.specs.FinMap.{empty}
 use Rattle.std.specs.List.{enumerate_from}
 use Rattle.std.proofs.Common.{ap, inl, inr, subst}

@@ -228,16 +228,6 @@ abbrev pub NothingElseLeads : List Checked → MachineState → Type 0
 NothingElseLeads cs w =
     (n : Node) → Member n (standing cs) → IsLedAlone (common cs) (ChangesHands cs) n.address (rows_at w n)
 
--- the same of the instances of networks
-pub record IsLedAloneInNetworks (feed : Map) (Exempt : InstanceId → Block → Type 0) (address : Addr) (rows : AgentRows) : Type 0 where
-  pub alone : (r s : (InstanceId × Block) × RouteEntry) (d : ℕ) → is_hop r.0.0 ≡ false
-      → Member r (agent_rows feed address).routes → (Exempt r.0.0 r.0.1 → ⊥) → Member s rows.routes → s.0.0 ≡ r.0.0
-      → contains r.0.1 d ≡ true → contains s.0.1 d ≡ true → s ≡ r
-
-abbrev pub NothingElseLeadsInNetworks : List Checked → MachineState → Type 0
-NothingElseLeadsInNetworks cs w =
-    (n : Node) → Member n (standing cs) → IsLedAloneInNetworks (common cs) (ChangesHands cs) n.address (rows_at w n)
-
 -- ---- access lists
 -- each access list that an agent has in use is that of some configuration
 abbrev pub AccessListsAreOfSome : List Checked → MachineState → Type 0
