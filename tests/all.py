@@ -32,6 +32,7 @@ def calls(program):
         yield f"{name}.py", [program]
     yield "shorts.py", []
     yield "ways.py", []
+    yield "pages.py", []
     yield "../tools/index.py", ["--check"]
 
 
