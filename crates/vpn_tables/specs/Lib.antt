@@ -15,5 +15,7 @@ pub mod At
 pub mod Moved
 pub mod Touched
 pub mod TouchedKeys
+pub mod Indexed
 pub mod Gathered
 pub mod NodeModel
+pub mod ControlSilentAgentLaws
