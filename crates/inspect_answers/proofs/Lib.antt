@@ -1,10 +1,4 @@
 mod Unfitting
-mod Exact
-mod Differing
-mod Delivered
-mod Gone
-mod Throughout
-mod SomeLine
 mod Told
 mod ExpectRead
 mod Counting
@@ -12,7 +6,5 @@ mod Meeting
 mod Otherwise
 mod Taken
 mod Keeping
-mod Deciding
-mod Unneeded
 mod TookIdle
 mod Changed

@@ -19,11 +19,11 @@ use Rattle.compile_answers.specs.declared.unfit.Unfit.TheVariants as unfit
 use Rattle.inspect_answers.specs.Expectations.{ExpectInput, Expectation, expect_at}
 use Rattle.inspect_answers.specs.Expecting.{all_met, expect_text}
 use Rattle.inspect_answers.specs.IdleLines.{idle_text}
-use Rattle.inspect_answers.specs.Lines.{ways_text}
+use Rattle.inspect_changes.specs.Lines.{ways_text}
 use Rattle.inspect_answers.specs.declared.asked.Asked.{Asked}
 use Rattle.inspect_answers.specs.declared.asked.Asked.TheVariants as Asks
-use Rattle.inspect_answers.specs.declared.asked.Pairs.{Pairs}
-use Rattle.inspect_answers.specs.declared.asked.Pairs.TheVariants.{All, Between}
+use Rattle.inspect_changes.specs.declared.pairs.Pairs.{Pairs}
+use Rattle.inspect_changes.specs.declared.pairs.Pairs.TheVariants.{All, Between}
 use Rattle.inspect_answers.specs.declared.verdict.Verdict.{Verdict}
 use Rattle.inspect_answers.specs.declared.verdict.Verdict.TheVariants.{Good, Differs, NotJson, BadDocument, Refused}
 

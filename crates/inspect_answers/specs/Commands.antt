@@ -6,7 +6,7 @@ use Rattle.ov_types.specs.First.{same_name}
 use Rattle.ov_types.specs.Name.{name_of}
 use Rattle.inspect_answers.specs.declared.asked.Asked.{Asked}
 use Rattle.inspect_answers.specs.declared.asked.Asked.TheVariants as Asks
-use Rattle.inspect_answers.specs.declared.asked.Pairs.TheVariants.{All, Between}
+use Rattle.inspect_changes.specs.declared.pairs.Pairs.TheVariants.{All, Between}
 
 abbrev pub is_ways : List ℕ → Bool
 is_ways word = pointwise nat_eq word (codes "ways")

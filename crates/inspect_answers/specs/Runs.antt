@@ -1,7 +1,7 @@
 -- How a run ends, by what was asked and by the octets that its source held.
 use Rattle.std.specs.Prelude.{◌≡◌, ℕ, ◌≤◌, List, length, Option, Some, None, ⊤}
 use Rattle.inspect_answers.specs.Answers.{answer}
-use Rattle.inspect_answers.specs.IdleSentences.{TookUnused}
+use Rattle.inspect_answers.specs.Unused.{TookUnused}
 use Rattle.inspect_answers.specs.Promise.{TookWays}
 use Rattle.inspect_answers.specs.Unmet.{TookExpected}
 use Rattle.inspect_answers.specs.declared.asked.Asked.{Asked}

@@ -3,15 +3,8 @@ ghost use Rattle.std.specs.Prelude.{◌≡◌};
 ghost use Rattle.ov_types.specs.Name.{name_of};
 ghost use Rattle.inspect_answers.specs.Commands.{asked_alone, asked_between, asked_of, is_diff, is_input, is_ways};
 
+use inspect_changes::Pairs;
 use ov_types::Name;
-
-/// From which networks ways are asked for, and to which.
-#[derive(Clone, Copy, PartialEq, Eq)]
-pub enum Pairs {
-    /// From each network to each other.
-    All,
-    Between { from: Name, to: Name },
-}
 
 /// What is asked of a document.
 #[derive(Clone, Copy, PartialEq, Eq)]
