@@ -11,6 +11,6 @@ use Rattle.inspect_answers.proofs.TookIdle.{took_unused}
 
 pub keeps : (asked : Asked) (octets : List ℕ) (verdict : Verdict) (old new : Option (List ℕ)) → WasGiven (answer asked octets) verdict old new
     → IsAnswer verdict → Keeps asked (status_of verdict) octets old new
-keeps (Ways pairs) octets verdict old new given answers = took_ways pairs octets verdict old new given answers
+keeps (Ways form pairs) octets verdict old new given answers = took_ways form pairs octets verdict old new given answers
 keeps Expect octets verdict old new given answers = took_expected octets verdict old new given answers
 keeps Unused octets verdict old new given answers = took_unused octets verdict old new given answers

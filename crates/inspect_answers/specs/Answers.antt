@@ -19,7 +19,8 @@ use Rattle.compile_answers.specs.declared.unfit.Unfit.TheVariants as unfit
 use Rattle.inspect_answers.specs.Expectations.{ExpectInput, Expectation, expect_at}
 use Rattle.inspect_answers.specs.Expecting.{all_met, expect_text}
 use Rattle.inspect_answers.specs.IdleLines.{idle_text}
-use Rattle.inspect_changes.specs.Lines.{ways_text}
+use Rattle.inspect_json.specs.WayLines.{ways_in}
+use Rattle.inspect_json.specs.declared.form.Form.{Form}
 use Rattle.inspect_answers.specs.declared.asked.Asked.{Asked}
 use Rattle.inspect_answers.specs.declared.asked.Asked.TheVariants as Asks
 use Rattle.inspect_changes.specs.declared.pairs.Pairs.{Pairs}
@@ -85,21 +86,21 @@ missing_of All c = None
 missing_of (Between from to) c = first_missing (missing c from) (missing c to)
 
 -- the ways of a configuration that is valid
-abbrev pub valid_answer : Pairs → Config → Answer
-valid_answer pairs c = judged (answer_checked (missing_of pairs c) (ways_text pairs c))
+abbrev pub valid_answer : Form → Pairs → Config → Answer
+valid_answer form pairs c = judged (answer_checked (missing_of pairs c) (ways_in form pairs c))
 
 -- of a topology and a configuration that were read, or not
-abbrev pub ways_reading : Pairs → Result CompileInput Fault → Answer
-ways_reading pairs (Err f) = judged (answer_bad f)
-ways_reading pairs (Ok p) = answer_unless (first_broken p.topology p.config) (valid_answer pairs p.config)
+abbrev pub ways_reading : Form → Pairs → Result CompileInput Fault → Answer
+ways_reading form pairs (Err f) = judged (answer_bad f)
+ways_reading form pairs (Ok p) = answer_unless (first_broken p.topology p.config) (valid_answer form pairs p.config)
 
 -- of a value
-unfoldable pub ways_value : Pairs → Data → Answer
-ways_value pairs d = ways_reading pairs (compile_at [] d)
+unfoldable pub ways_value : Form → Pairs → Data → Answer
+ways_value form pairs d = ways_reading form pairs (compile_at [] d)
 
 -- what `inspect ways` answers to a document
-unfoldable pub ways_answer : Pairs → List ℕ → Answer
-ways_answer pairs octets = of_json (ways_value pairs) (json_of octets)
+unfoldable pub ways_answer : Form → Pairs → List ℕ → Answer
+ways_answer form pairs octets = of_json (ways_value form pairs) (json_of octets)
 
 -- what is expected of packets is met by each, or not
 abbrev pub expected_answer : Config → List Expectation → Answer
@@ -136,6 +137,6 @@ unused_answer octets = of_json unused_value (json_of octets)
 
 -- what is answered to a document
 abbrev pub answer : Asked → List ℕ → Answer
-answer (Asks.Ways pairs) octets = ways_answer pairs octets
+answer (Asks.Ways form pairs) octets = ways_answer form pairs octets
 answer Asks.Expect octets = expect_answer octets
 answer Asks.Unused octets = unused_answer octets

@@ -1,32 +1,68 @@
 //! What is asked for by the words of the command line.
 ghost use Rattle.std.specs.Prelude.{◌≡◌};
 ghost use Rattle.ov_types.specs.Name.{name_of};
-ghost use Rattle.inspect_answers.specs.Commands.{asked_alone, asked_between, asked_of, is_diff, is_input, is_ways};
+ghost use Rattle.inspect_answers.specs.Commands.{asked_alone, asked_as_text, asked_between, asked_by, asked_of};
+ghost use Rattle.inspect_answers.specs.Commands.{form_of, is_diff, is_input, is_json, is_ways, named_by};
 
 use inspect_changes::Pairs;
+use inspect_json::Form;
 use ov_types::Name;
 
 /// What is asked of a document.
 #[derive(Clone, Copy, PartialEq, Eq)]
 pub enum Asked {
     /// What is let through between networks.
-    Ways(Pairs),
+    Ways(Form, Pairs),
     /// Which packets have another outcome than is expected.
     Expect,
     /// Which rules decide nothing, and which policies and chains are not in use.
     Unused,
 }
 
-/// What the words after the program's name ask of a document: a command and the document's file, and, for `ways`, none
-/// or two names of networks that differ.
+/// What the words after the program's name ask of a document: a command, `--json` where lines of JSON are asked for, the
+/// document's file, and, for `ways`, none or two names of networks that differ.
 pub fn asked_of(words: &[String]) -> Option<Asked>
     ensures { result ≡ asked_of words.now }
 {
     match words {
-        [command, _] => asked_alone(command.as_str()),
-        [command, _, from, to] if is_ways(command.as_str()) => {
-            asked_between(from.as_str(), to.as_str())
-        }
+        [] => None,
+        [command, words @ ..] => asked_by(command.as_str(), form_of(words), named_by(words)),
+    }
+}
+
+fn is_json(word: &str) -> bool
+    ensures { result ≡ is_json word.now }
+{
+    word == "--json"
+}
+
+/// The form of lines that the words behind a command ask for.
+fn form_of(words: &[String]) -> Form
+    ensures { result ≡ form_of words.now }
+{
+    match words {
+        [word, ..] if is_json(word.as_str()) => Form::Json,
+        _ => Form::Text,
+    }
+}
+
+/// The words behind a command, and behind `--json`.
+pub fn named_by(words: &[String]) -> &[String]
+    ensures { result.now ≡ named_by words.now }
+{
+    match words {
+        [word, others @ ..] if is_json(word.as_str()) => others,
+        _ => words,
+    }
+}
+
+/// What a command asks for by the words behind it.
+fn asked_by(command: &str, form: Form, words: &[String]) -> Option<Asked>
+    ensures { result ≡ asked_by command.now form words.now }
+{
+    match words {
+        [_] => asked_alone(form, command),
+        [_, from, to] if is_ways(command) => asked_between(form, from.as_str(), to.as_str()),
         _ => None,
     }
 }
@@ -37,27 +73,36 @@ fn is_ways(word: &str) -> bool
     word == "ways"
 }
 
-/// What a command asks for that is given a file alone.
-fn asked_alone(command: &str) -> Option<Asked>
-    ensures { result ≡ asked_alone command.now }
+/// What a command asks for that has lines of text alone.
+fn asked_as_text(form: Form, command: &str) -> Option<Asked>
+    ensures { result ≡ asked_as_text form command.now }
 {
-    match command {
-        "ways" => Some(Asked::Ways(Pairs::All)),
-        "expect" => Some(Asked::Expect),
-        "unused" => Some(Asked::Unused),
+    match (form, command) {
+        (Form::Text, "expect") => Some(Asked::Expect),
+        (Form::Text, "unused") => Some(Asked::Unused),
         _ => None,
     }
 }
 
-fn asked_between(from: &str, to: &str) -> Option<Asked>
-    ensures { result ≡ asked_between (name_of from.now) (name_of to.now) }
+/// What a command asks for that is given a file alone.
+fn asked_alone(form: Form, command: &str) -> Option<Asked>
+    ensures { result ≡ asked_alone form command.now }
+{
+    if is_ways(command) {
+        return Some(Asked::Ways(form, Pairs::All));
+    }
+    asked_as_text(form, command)
+}
+
+fn asked_between(form: Form, from: &str, to: &str) -> Option<Asked>
+    ensures { result ≡ asked_between form (name_of from.now) (name_of to.now) }
 {
     let from = Name::new(from)?;
     let to = Name::new(to)?;
     if from == to {
         return None;
     }
-    Some(Asked::Ways(Pairs::Between { from, to }))
+    Some(Asked::Ways(form, Pairs::Between { from, to }))
 }
 
 fn is_input(file: &str) -> bool

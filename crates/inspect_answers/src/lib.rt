@@ -17,9 +17,10 @@ mod top;
 mod verdict;
 mod writing;
 
-pub use asked::{Asked, asked_of, is_diff};
+pub use asked::{Asked, asked_of, is_diff, named_by};
 pub use comparing::{Ending, Which, inspect_diff};
 pub use expectation::{ExpectInput, Expectation, Expected};
 pub use inspect_changes::Pairs;
+pub use inspect_json::Form;
 pub use top::{Status, inspect};
 pub use verdict::Verdict;

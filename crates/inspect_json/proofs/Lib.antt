@@ -1,0 +1,4 @@
+mod Fit
+pub mod NoFloats
+mod Reads
+mod Says

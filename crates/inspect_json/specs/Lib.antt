@@ -1,0 +1,4 @@
+pub mod Form
+pub mod Values
+pub mod WayLines
+pub mod Sizes
