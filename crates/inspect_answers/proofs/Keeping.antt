@@ -13,4 +13,4 @@ pub keeps : (asked : Asked) (octets : List ℕ) (verdict : Verdict) (old new : O
     → IsAnswer verdict → Keeps asked (status_of verdict) octets old new
 keeps (Ways form pairs) octets verdict old new given answers = took_ways form pairs octets verdict old new given answers
 keeps Expect octets verdict old new given answers = took_expected octets verdict old new given answers
-keeps Unused octets verdict old new given answers = took_unused octets verdict old new given answers
+keeps (Unused form) octets verdict old new given answers = took_unused form octets verdict old new given answers

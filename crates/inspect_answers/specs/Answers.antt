@@ -18,7 +18,7 @@ use Rattle.compile_answers.specs.declared.unfit.Unfit.{Unfit}
 use Rattle.compile_answers.specs.declared.unfit.Unfit.TheVariants as unfit
 use Rattle.inspect_answers.specs.Expectations.{ExpectInput, Expectation, expect_at}
 use Rattle.inspect_answers.specs.Expecting.{all_met, expect_text}
-use Rattle.inspect_answers.specs.IdleLines.{idle_text}
+use Rattle.inspect_answers.specs.IdleLines.{idle_in}
 use Rattle.inspect_json.specs.WayLines.{ways_in}
 use Rattle.inspect_json.specs.declared.form.Form.{Form}
 use Rattle.inspect_answers.specs.declared.asked.Asked.{Asked}
@@ -123,20 +123,20 @@ unfoldable pub expect_answer : List ℕ → Answer
 expect_answer octets = of_json expect_value (json_of octets)
 
 -- what decides nothing, or is not in use, of what was read for `unused`, or not
-abbrev pub unused_reading : Result CompileInput Fault → Answer
-unused_reading (Err f) = judged (answer_bad f)
-unused_reading (Ok p) = answer_unless (first_broken p.topology p.config) (judged (answer_good (idle_text p.config)))
+abbrev pub unused_reading : Form → Result CompileInput Fault → Answer
+unused_reading form (Err f) = judged (answer_bad f)
+unused_reading form (Ok p) = answer_unless (first_broken p.topology p.config) (judged (answer_good (idle_in form p.config)))
 
 -- of a value
-unfoldable pub unused_value : Data → Answer
-unused_value d = unused_reading (compile_at [] d)
+unfoldable pub unused_value : Form → Data → Answer
+unused_value form d = unused_reading form (compile_at [] d)
 
 -- what `inspect unused` answers to a document
-unfoldable pub unused_answer : List ℕ → Answer
-unused_answer octets = of_json unused_value (json_of octets)
+unfoldable pub unused_answer : Form → List ℕ → Answer
+unused_answer form octets = of_json (unused_value form) (json_of octets)
 
 -- what is answered to a document
 abbrev pub answer : Asked → List ℕ → Answer
 answer (Asks.Ways form pairs) octets = ways_answer form pairs octets
 answer Asks.Expect octets = expect_answer octets
-answer Asks.Unused octets = unused_answer octets
+answer (Asks.Unused form) octets = unused_answer form octets

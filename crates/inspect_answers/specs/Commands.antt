@@ -17,9 +17,9 @@ abbrev pub is_json : List ℕ → Bool
 is_json word = pointwise nat_eq word (codes "--json")
 
 -- the form of lines that the words behind a command ask for
-abbrev pub form_of : List (String Global) → Form
-form_of [] = Text
-form_of (word ∷ words) = if is_json (string_bytes word) then Json else Text
+abbrev pub form_behind : List (String Global) → Form
+form_behind [] = Text
+form_behind (word ∷ words) = if is_json (string_bytes word) then Json else Text
 
 -- the words behind a command, and behind `--json`
 abbrev pub named_by : List (String Global) → List (String Global)
@@ -30,12 +30,16 @@ named_by (word ∷ words) = if is_json (string_bytes word) then words else word 
 abbrev pub asked_as_text : Form → List ℕ → Option Asked
 asked_as_text Json word = None
 asked_as_text Text word =
-    if pointwise nat_eq word (codes "expect") then Some Asks.Expect
-    else (if pointwise nat_eq word (codes "unused") then Some Asks.Unused else None)
+    if pointwise nat_eq word (codes "expect") then Some Asks.Expect else None
+
+abbrev pub is_unused : List ℕ → Bool
+is_unused word = pointwise nat_eq word (codes "unused")
 
 -- what a command asks for that is given a file alone
 abbrev pub asked_alone : Form → List ℕ → Option Asked
-asked_alone form word = if is_ways word then Some (Asks.Ways form All) else asked_as_text form word
+asked_alone form word =
+    if is_ways word then Some (Asks.Ways form All)
+    else (if is_unused word then Some (Asks.Unused form) else asked_as_text form word)
 
 -- the ways between two networks of these names, which differ
 abbrev pub asked_between : Form → Option (List ℕ) → Option (List ℕ) → Option Asked
@@ -55,13 +59,22 @@ asked_by command form (file ∷ from ∷ to ∷ other ∷ words) = None
 -- what words ask of a document: a command, `--json` where lines of JSON are asked for, and what it takes
 abbrev pub asked_of : List (String Global) → Option Asked
 asked_of [] = None
-asked_of (command ∷ words) = asked_by (string_bytes command) (form_of words) (named_by words)
+asked_of (command ∷ words) = asked_by (string_bytes command) (form_behind words) (named_by words)
 
 abbrev pub is_input : List ℕ → Bool
 is_input file = pointwise nat_eq file (codes "-")
 
--- words ask what differs between two documents: a command and the files of both, of which one at most is standard input
+-- two files, of which one at most is standard input
+abbrev pub are_two_files : List (String Global) → Bool
+are_two_files (before ∷ after ∷ []) = not (is_input (string_bytes before) && is_input (string_bytes after))
+are_two_files _ = false
+
+-- words ask what differs between two documents: a command, `--json` where lines of JSON are asked for, and the files of both
 abbrev pub is_diff : List (String Global) → Bool
-is_diff (command ∷ before ∷ after ∷ []) =
-    pointwise nat_eq (string_bytes command) (codes "diff") && not (is_input (string_bytes before) && is_input (string_bytes after))
-is_diff _ = false
+is_diff [] = false
+is_diff (command ∷ words) = pointwise nat_eq (string_bytes command) (codes "diff") && are_two_files (named_by words)
+
+-- the form of lines that words ask for
+abbrev pub form_of : List (String Global) → Form
+form_of [] = Text
+form_of (command ∷ words) = form_behind words

@@ -87,4 +87,4 @@ IsSilent _ = ⊥
 abbrev pub Keeps : Asked → Status → List ℕ → Option (List ℕ) → Option (List ℕ) → Type 0
 Keeps (Asks.Ways form pairs) status octets old new = (status ≡ Ended.Done) × TookWays form pairs octets old new
 Keeps Asks.Expect status octets old new = TookExpected status octets old new
-Keeps Asks.Unused status octets old new = (status ≡ Ended.Done) × TookUnused octets old new
+Keeps (Asks.Unused form) status octets old new = (status ≡ Ended.Done) × TookUnused form octets old new

@@ -135,6 +135,6 @@ pub(crate) fn answer<K: Sink>(
     match asked {
         Asked::Ways(form, pairs) => answer_ways(alloc, *form, pairs, octets, sink),
         Asked::Expect => answer_expect(alloc, octets, sink),
-        Asked::Unused => answer_unused(alloc, octets, sink),
+        Asked::Unused(form) => answer_unused(alloc, *form, octets, sink),
     }
 }

@@ -1,8 +1,9 @@
 //! What is asked for by the words of the command line.
 ghost use Rattle.std.specs.Prelude.{◌≡◌};
 ghost use Rattle.ov_types.specs.Name.{name_of};
-ghost use Rattle.inspect_answers.specs.Commands.{asked_alone, asked_as_text, asked_between, asked_by, asked_of};
-ghost use Rattle.inspect_answers.specs.Commands.{form_of, is_diff, is_input, is_json, is_ways, named_by};
+ghost use Rattle.inspect_answers.specs.Commands.{are_two_files, asked_alone, asked_as_text, asked_between, asked_by};
+ghost use Rattle.inspect_answers.specs.Commands.{asked_of, form_behind, form_of, is_diff, is_input, is_json, is_unused, is_ways};
+ghost use Rattle.inspect_answers.specs.Commands.{named_by};
 
 use inspect_changes::Pairs;
 use inspect_json::Form;
@@ -16,7 +17,7 @@ pub enum Asked {
     /// Which packets have another outcome than is expected.
     Expect,
     /// Which rules decide nothing, and which policies and chains are not in use.
-    Unused,
+    Unused(Form),
 }
 
 /// What the words after the program's name ask of a document: a command, `--json` where lines of JSON are asked for, the
@@ -26,7 +27,7 @@ pub fn asked_of(words: &[String]) -> Option<Asked>
 {
     match words {
         [] => None,
-        [command, words @ ..] => asked_by(command.as_str(), form_of(words), named_by(words)),
+        [command, words @ ..] => asked_by(command.as_str(), form_behind(words), named_by(words)),
     }
 }
 
@@ -37,8 +38,8 @@ fn is_json(word: &str) -> bool
 }
 
 /// The form of lines that the words behind a command ask for.
-fn form_of(words: &[String]) -> Form
-    ensures { result ≡ form_of words.now }
+fn form_behind(words: &[String]) -> Form
+    ensures { result ≡ form_behind words.now }
 {
     match words {
         [word, ..] if is_json(word.as_str()) => Form::Json,
@@ -73,13 +74,18 @@ fn is_ways(word: &str) -> bool
     word == "ways"
 }
 
+fn is_unused(word: &str) -> bool
+    ensures { result ≡ is_unused word.now }
+{
+    word == "unused"
+}
+
 /// What a command asks for that has lines of text alone.
 fn asked_as_text(form: Form, command: &str) -> Option<Asked>
     ensures { result ≡ asked_as_text form command.now }
 {
     match (form, command) {
         (Form::Text, "expect") => Some(Asked::Expect),
-        (Form::Text, "unused") => Some(Asked::Unused),
         _ => None,
     }
 }
@@ -90,6 +96,9 @@ fn asked_alone(form: Form, command: &str) -> Option<Asked>
 {
     if is_ways(command) {
         return Some(Asked::Ways(form, Pairs::All));
+    }
+    if is_unused(command) {
+        return Some(Asked::Unused(form));
     }
     asked_as_text(form, command)
 }
@@ -111,15 +120,33 @@ fn is_input(file: &str) -> bool
     file == "-"
 }
 
-/// Whether the words after the program's name ask what differs between two documents: the command and the files of both,
-/// of which one at most is standard input.
+/// Two files, of which one at most is standard input.
+fn are_two_files(words: &[String]) -> bool
+    ensures { result ≡ are_two_files words.now }
+{
+    match words {
+        [before, after] => !(is_input(before.as_str()) && is_input(after.as_str())),
+        _ => false,
+    }
+}
+
+/// Whether the words after the program's name ask what differs between two documents: the command, `--json` where lines
+/// of JSON are asked for, and the files of both, of which one at most is standard input.
 pub fn is_diff(words: &[String]) -> bool
     ensures { result ≡ is_diff words.now }
 {
     match words {
-        [command, before, after] => {
-            command.as_str() == "diff" && !(is_input(before.as_str()) && is_input(after.as_str()))
-        }
-        _ => false,
+        [] => false,
+        [command, words @ ..] => command.as_str() == "diff" && are_two_files(named_by(words)),
+    }
+}
+
+/// The form of lines that the words after the program's name ask for.
+pub(crate) fn form_of(words: &[String]) -> Form
+    ensures { result ≡ form_of words.now }
+{
+    match words {
+        [] => Form::Text,
+        [_, words @ ..] => form_behind(words),
     }
 }

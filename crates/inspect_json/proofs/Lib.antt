@@ -1,4 +1,4 @@
 mod Fit
 pub mod NoFloats
-mod Reads
-mod Says
+mod ReadBack
+mod SameSaid

@@ -6,7 +6,16 @@ use Rattle.serde_json.specs.Written.{has_float, items_have_float}
 use Rattle.ov_types.specs.declared.numbers.ServiceNo.{ServiceNo}
 use Rattle.ov_types.specs.declared.packet.RuleNo.{RuleNo}
 use Rattle.config_types.specs.declared.config.Config.{Config}
+use Rattle.inspect_changes.specs.declared.fate.Difference.{Difference}
+use Rattle.inspect_changes.specs.declared.fate.Fate.{Fate}
+use Rattle.inspect_changes.specs.declared.fate.Fate.TheVariants.{Passed, Through, Denied, Unmatched}
+use Rattle.inspect_changes.specs.declared.objects.Object.{Object}
+use Rattle.inspect_changes.specs.declared.objects.Object.TheVariants as Is
 use Rattle.inspect_changes.specs.declared.way.Way.{Way}
+use Rattle.inspect_rules.specs.declared.idle.Idle.{Idle}
+use Rattle.inspect_rules.specs.declared.idle.Idle.TheVariants as Idles
+use Rattle.inspect_json.specs.IdleValues.{idle_chain_value, idle_policy_value, idle_rule_value, idle_value}
+use Rattle.inspect_json.specs.ChangeValues.{came_value, difference_value, fate_rule, fate_services, fate_value, network_value, object_value, port_name, port_value, service_object_value, subnet_value, went_value}
 use Rattle.inspect_json.specs.Values.{name_value, passage_services, policy_name, rule_value, service_name, service_value, way_value}
 
 lists : {A : Type 0} (value : A → Data) → ((x : A) → has_float (value x) ≡ false) → (xs : List A) → items_have_float (items_of (map value xs)) ≡ false
@@ -28,3 +37,38 @@ service c s = rw (names (service_name c s.0)) refl
 pub way : (c : Config) (from to : List ℕ) (w : Way) → has_float (way_value c from to w) ≡ false
 unfolding way_value
 way c from to w = rw (rule c w.decision.rule, lists (service_value c) (service c) (passage_services w.passage)) refl
+
+went_object : (c : Config) (o : Object) → has_float (object_value c o) ≡ false
+unfolding network_value subnet_value port_value service_object_value
+went_object c (Is.Network name) = refl
+went_object c (Is.Subnet network prefix) = refl
+went_object c (Is.Port number network address node) = rw (names (port_name c number.0)) refl
+went_object c (Is.Service number node) = rw (names (service_name c number.0)) refl
+
+pub went : (c : Config) (o : Object) → has_float (went_value c o) ≡ false
+unfolding went_value
+went c o = rw (went_object c o) refl
+
+pub came : (c : Config) (o : Object) → has_float (came_value c o) ≡ false
+unfolding came_value
+came c o = rw (went_object c o) refl
+
+fate_rules : (c : Config) (f : Fate) → has_float (fate_rule c f) ≡ false
+fate_rules c (Passed r) = rule c r
+fate_rules c (Through r services) = rule c r
+fate_rules c (Denied r) = rule c r
+fate_rules c Unmatched = refl
+
+fate : (c : Config) (f : Fate) → has_float (fate_value c f) ≡ false
+unfolding fate_value
+fate c f = rw (fate_rules c f, lists (service_value c) (service c) (fate_services f)) refl
+
+pub difference : (c d : Config) (x : Difference) → has_float (difference_value c d x) ≡ false
+unfolding difference_value
+difference c d x = rw (fate d x.becomes, fate c x.was) refl
+
+pub idle : (c : Config) (x : Idle) → has_float (idle_value c x) ≡ false
+unfolding idle_rule_value idle_policy_value idle_chain_value
+idle c (Idles.Rule r before) = rw (lists (rule_value c) (rule c) before, rule c r) refl
+idle c (Idles.Policy name networks) = refl
+idle c (Idles.Chain name) = refl

@@ -1,4 +1,7 @@
 pub mod Form
 pub mod Values
 pub mod WayLines
+pub mod ChangeValues
+pub mod ChangeLines
+pub mod IdleValues
 pub mod Sizes

@@ -16,7 +16,7 @@ policy_name c sequence = option_map (λ p. p.name) (find (λ p. p.sequence == se
 
 -- the name of the first service of a number
 abbrev pub service_name : Config → ℕ → Option (List ℕ)
-service_name c number = option_map (λ s. s.name) (find (λ s. s.id.0 == number) c.services)
+service_name c n = option_map (λ s. s.name) (find (λ s. s.id.0 == n) c.services)
 
 -- a name, and `null` where there is none
 abbrev pub name_value : Option (List ℕ) → Data

@@ -2,11 +2,17 @@
 //! reads as its value.
 #![tactic(auto)]
 
+mod change_lines;
+mod change_values;
 mod form;
+mod idle_lines;
+mod idle_values;
 pub mod laws;
 mod line;
 mod values;
 mod way_lines;
 
+pub use change_lines::{CameIn, DifferencesIn, WentIn};
 pub use form::Form;
+pub use idle_lines::IdleJson;
 pub use way_lines::WaysIn;

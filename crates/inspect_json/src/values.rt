@@ -22,7 +22,7 @@ fn policy_name(config: &Config, sequence: u16) -> Option<Name>
 }
 
 /// The name of the first service of a number.
-fn service_name(config: &Config, number: u16) -> Option<Name>
+pub(crate) fn service_name(config: &Config, number: u16) -> Option<Name>
     ensures { result ≡ service_name config.now number }
 {
     let services = config.services.as_slice();
@@ -33,7 +33,7 @@ fn service_name(config: &Config, number: u16) -> Option<Name>
 }
 
 /// A name, and `null` where there is none.
-fn name_value(alloc: Global, name: Option<Name>) -> Result<Value, AllocError>
+pub(crate) fn name_value(alloc: Global, name: Option<Name>) -> Result<Value, AllocError>
     ensures { IfOk result (λ v. view v ≡ name_value name) }
 {
     match name {
@@ -42,14 +42,14 @@ fn name_value(alloc: Global, name: Option<Name>) -> Result<Value, AllocError>
     }
 }
 
-fn range_value(alloc: Global, range: Range16) -> Result<Value, AllocError>
+pub(crate) fn range_value(alloc: Global, range: Range16) -> Result<Value, AllocError>
     ensures { IfOk result (λ v. view v ≡ range_value range) }
 {
     json!(in alloc; [(range.lo), (range.hi)])
 }
 
 #[tactic(auto, unfolding(crate::specs::Values::rule_value))]
-fn rule_value(alloc: Global, config: &Config, rule: RuleNo) -> Result<Value, AllocError>
+pub(crate) fn rule_value(alloc: Global, config: &Config, rule: RuleNo) -> Result<Value, AllocError>
     ensures { IfOk result (λ v. view v ≡ rule_value config.now rule) }
 {
     let policy = name_value(alloc, policy_name(config, rule.sequence))?;
@@ -69,7 +69,7 @@ fn service_value(alloc: Global, config: &Config, service: ServiceNo) -> Result<V
 }
 
 /// A list of the values of services.
-fn services_value(
+pub(crate) fn services_value(
     alloc: Global,
     config: &Config,
     services: &[ServiceNo],
