@@ -13,6 +13,7 @@ import json
 import random
 import subprocess
 import sys
+import tempfile
 
 import inspect_diff
 import inspect_ways
@@ -137,3 +138,23 @@ def pair_tried(program, chance, folder, wrong):
         json.dump(before, it)
     names = [Names(document["configuration"], wrong) for document in (before, after)]
     return compared(program, "diff", [old, "-"], json.dumps(after), lambda value: change(*names, value), wrong)
+
+
+def main():
+    if not 2 <= len(sys.argv) <= 4:
+        sys.exit(__doc__)
+    program, count, seed = sys.argv[1], int((sys.argv[2:] or ["50"])[0]), int((sys.argv[3:] or ["1"])[0])
+    chance, done, pairs, refused, wrong = random.Random(seed), 0, 0, 0, []
+    with tempfile.TemporaryDirectory() as folder:
+        while done < count or pairs < count:
+            was = len(wrong)
+            one, two = tried(program, chance, wrong), pair_tried(program, chance, folder, wrong)
+            done, pairs, refused = done + one, pairs + two, refused + (not one) + (not two)
+            for line in wrong[was : was + 5]:
+                print(line)
+    print(f"{done} documents, {pairs} pairs, {refused} more refused, {len(wrong)} differences")
+    sys.exit(1 if wrong else 0)
+
+
+if __name__ == "__main__":
+    main()

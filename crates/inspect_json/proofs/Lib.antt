@@ -1,4 +1,5 @@
 mod Fit
 pub mod NoFloats
+mod Named
 mod ReadBack
 mod SameSaid
