@@ -1,5 +1,5 @@
 -- The value of a line is fit, so that its text reads as it.
-use Rattle.std.proofs.Common.{◌≡◌, ℕ, zero, suc, ◌<◌, ◌^◌, ◌/◌, ◌%◌, ◌==◌, ◌&&◌, Bool, true, false, cond, IsTrue, List, [], ◌∷◌, map, nat_le, nat_lt, decimal, Option, Some, None, IsUtf8, codes, refl, arith}
+use Rattle.std.proofs.Common.{◌≡◌, ℕ, suc, ◌<◌, ◌^◌, ◌/◌, ◌%◌, ◌==◌, ◌&&◌, Bool, true, false, cond, IsTrue, List, [], ◌∷◌, map, nat_le, nat_lt, decimal, Some, IsUtf8, codes, refl, arith}
 use Rattle.std.specs.Prelude.{find, option_map}
 use Rattle.std.specs.List.{list_all}
 use Rattle.std.proofs.lemmas.Bool.{and_parts, leb-true, ltb-true}
@@ -35,7 +35,7 @@ use Rattle.inspect_json.specs.IdleValues.{idle_chain_value, idle_policy_value, i
 use Rattle.inspect_json.specs.ChangeValues.{came_value, difference_value, fate_rule, fate_services, fate_value, fate_word, network_value, object_value, port_value, service_object_value, subnet_value, went_value}
 use Rattle.inspect_json.specs.Form.{IsReadBack}
 use Rattle.inspect_json.specs.Sizes.{has_difference_size, has_fate_size, has_idle_size, has_object_size, has_range_size, has_region_size, has_rule_size, has_service_size, has_way_size}
-use Rattle.inspect_json.specs.Values.{list_value, name_value, passage_services, passage_word, policy_name, range_value, rule_value, service_name, service_value, way_value}
+use Rattle.inspect_json.specs.Values.{list_value, name_value, passage_services, passage_word, range_value, rule_value, service_value, way_value}
 use Rattle.inspect_json.proofs.Fit.{AreFit, IsFit, is_read_back}
 
 word : (s : List ℕ) → are_ascii s ≡ true → IsUtf8 s

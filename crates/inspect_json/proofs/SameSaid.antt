@@ -1,6 +1,6 @@
 -- Values that are the same say the same.
 use Rattle.std.proofs.Common.{◌≡◌, ◌≢◌, ◌∙◌, ℕ, suc, List, [], ◌∷◌, ◌++◌, length, map, codes, decimal, refl, sym, ap, arith}
-use Rattle.serde_json.specs.Data.{Data, null, boolean, number, string, array, object, unsigned, negative, float, Items, no_items, item, Members, no_members, member}
+use Rattle.serde_json.specs.Data.{Data, null, number, string, array, object, unsigned, Items, no_items, item, Members, no_members, member}
 use Rattle.serde_json.specs.View.{items_of}
 use Rattle.inspect_changes.specs.Report.Outcomes.{services_text}
 use Rattle.ov_types.specs.Rows.{rule_text}
@@ -8,7 +8,6 @@ use Rattle.ov_types.specs.declared.numbers.ServiceNo.{ServiceNo}
 use Rattle.ov_types.specs.declared.packet.Range16.{Range16}
 use Rattle.ov_types.specs.declared.packet.RuleNo.{RuleNo}
 use Rattle.config_types.specs.declared.config.Config.{Config}
-use Rattle.policy_regions.specs.declared.region.Region.{Region}
 use Rattle.inspect_changes.specs.DifferenceLines.{came_line, difference_line, fate_text, object_text, went_line}
 use Rattle.inspect_changes.specs.Lines.{passage_text, region_text, way_line}
 use Rattle.inspect_changes.specs.declared.fate.Difference.{Difference}

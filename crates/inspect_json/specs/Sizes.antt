@@ -1,5 +1,5 @@
 -- Which things of lines have names of the form of names, and numbers of the sizes that their types have.
-use Rattle.std.specs.Prelude.{ℕ, ◌&&◌, ◌^◌, Bool, true, nat_le, nat_lt}
+use Rattle.std.specs.Prelude.{◌&&◌, ◌^◌, Bool, true, nat_le, nat_lt}
 use Rattle.std.specs.List.{list_all}
 use Rattle.ov_types.specs.Name.{is_name}
 use Rattle.ov_types.specs.declared.packet.Range16.{Range16}
