@@ -12,5 +12,5 @@ use Rattle.inspect_answers.proofs.TookIdle.{took_unused}
 pub keeps : (asked : Asked) (octets : List ℕ) (verdict : Verdict) (old new : Option (List ℕ)) → WasGiven (answer asked octets) verdict old new
     → IsAnswer verdict → Keeps asked (status_of verdict) octets old new
 keeps (Ways form pairs) octets verdict old new given answers = took_ways form pairs octets verdict old new given answers
-keeps Expect octets verdict old new given answers = took_expected octets verdict old new given answers
+keeps (Expect form) octets verdict old new given answers = took_expected form octets verdict old new given answers
 keeps (Unused form) octets verdict old new given answers = took_unused form octets verdict old new given answers

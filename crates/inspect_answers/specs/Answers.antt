@@ -17,7 +17,7 @@ use Rattle.compile_answers.specs.declared.unfit.Reception.TheVariants as Receive
 use Rattle.compile_answers.specs.declared.unfit.Unfit.{Unfit}
 use Rattle.compile_answers.specs.declared.unfit.Unfit.TheVariants as unfit
 use Rattle.inspect_answers.specs.Expectations.{ExpectInput, Expectation, expect_at}
-use Rattle.inspect_answers.specs.Expecting.{all_met, expect_text}
+use Rattle.inspect_answers.specs.Expecting.{all_met, expect_in}
 use Rattle.inspect_answers.specs.IdleLines.{idle_in}
 use Rattle.inspect_json.specs.WayLines.{ways_in}
 use Rattle.inspect_json.specs.declared.form.Form.{Form}
@@ -103,24 +103,25 @@ unfoldable pub ways_answer : Form → Pairs → List ℕ → Answer
 ways_answer form pairs octets = of_json (ways_value form pairs) (json_of octets)
 
 -- what is expected of packets is met by each, or not
-abbrev pub expected_answer : Config → List Expectation → Answer
-expected_answer c packets = record {
+abbrev pub expected_answer : Form → Config → List Expectation → Answer
+expected_answer form c packets = record {
   verdict = if all_met c packets then Good else Differs;
-  text = expect_text c packets;
+  text = expect_in form c packets;
 }
 
 -- of what was read for `expect`, or not
-abbrev pub expect_reading : Result ExpectInput Fault → Answer
-expect_reading (Err f) = judged (answer_bad f)
-expect_reading (Ok r) = answer_unless (first_broken r.input.topology r.input.config) (expected_answer r.input.config r.packets)
+abbrev pub expect_reading : Form → Result ExpectInput Fault → Answer
+expect_reading form (Err f) = judged (answer_bad f)
+expect_reading form (Ok r) =
+    answer_unless (first_broken r.input.topology r.input.config) (expected_answer form r.input.config r.packets)
 
 -- of a value
-unfoldable pub expect_value : Data → Answer
-expect_value d = expect_reading (expect_at [] d)
+unfoldable pub expect_value : Form → Data → Answer
+expect_value form d = expect_reading form (expect_at [] d)
 
 -- what `inspect expect` answers to a document
-unfoldable pub expect_answer : List ℕ → Answer
-expect_answer octets = of_json expect_value (json_of octets)
+unfoldable pub expect_answer : Form → List ℕ → Answer
+expect_answer form octets = of_json (expect_value form) (json_of octets)
 
 -- what decides nothing, or is not in use, of what was read for `unused`, or not
 abbrev pub unused_reading : Form → Result CompileInput Fault → Answer
@@ -138,5 +139,5 @@ unused_answer form octets = of_json (unused_value form) (json_of octets)
 -- what is answered to a document
 abbrev pub answer : Asked → List ℕ → Answer
 answer (Asks.Ways form pairs) octets = ways_answer form pairs octets
-answer Asks.Expect octets = expect_answer octets
+answer (Asks.Expect form) octets = expect_answer form octets
 answer (Asks.Unused form) octets = unused_answer form octets

@@ -134,7 +134,7 @@ pub(crate) fn answer<K: Sink>(
 {
     match asked {
         Asked::Ways(form, pairs) => answer_ways(alloc, *form, pairs, octets, sink),
-        Asked::Expect => answer_expect(alloc, octets, sink),
+        Asked::Expect(form) => answer_expect(alloc, *form, octets, sink),
         Asked::Unused(form) => answer_unused(alloc, *form, octets, sink),
     }
 }

@@ -1,8 +1,8 @@
 //! What is asked for by the words of the command line.
 ghost use Rattle.std.specs.Prelude.{◌≡◌};
 ghost use Rattle.ov_types.specs.Name.{name_of};
-ghost use Rattle.inspect_answers.specs.Commands.{are_two_files, asked_alone, asked_as_text, asked_between, asked_by};
-ghost use Rattle.inspect_answers.specs.Commands.{asked_of, form_behind, form_of, is_diff, is_input, is_json, is_unused, is_ways};
+ghost use Rattle.inspect_answers.specs.Commands.{are_two_files, asked_alone, asked_between, asked_by};
+ghost use Rattle.inspect_answers.specs.Commands.{asked_of, form_behind, form_of, is_diff, is_input, is_json, is_ways};
 ghost use Rattle.inspect_answers.specs.Commands.{named_by};
 
 use inspect_changes::Pairs;
@@ -15,7 +15,7 @@ pub enum Asked {
     /// What is let through between networks.
     Ways(Form, Pairs),
     /// Which packets have another outcome than is expected.
-    Expect,
+    Expect(Form),
     /// Which rules decide nothing, and which policies and chains are not in use.
     Unused(Form),
 }
@@ -74,33 +74,16 @@ fn is_ways(word: &str) -> bool
     word == "ways"
 }
 
-fn is_unused(word: &str) -> bool
-    ensures { result ≡ is_unused word.now }
-{
-    word == "unused"
-}
-
-/// What a command asks for that has lines of text alone.
-fn asked_as_text(form: Form, command: &str) -> Option<Asked>
-    ensures { result ≡ asked_as_text form command.now }
-{
-    match (form, command) {
-        (Form::Text, "expect") => Some(Asked::Expect),
-        _ => None,
-    }
-}
-
 /// What a command asks for that is given a file alone.
 fn asked_alone(form: Form, command: &str) -> Option<Asked>
     ensures { result ≡ asked_alone form command.now }
 {
-    if is_ways(command) {
-        return Some(Asked::Ways(form, Pairs::All));
+    match command {
+        "ways" => Some(Asked::Ways(form, Pairs::All)),
+        "expect" => Some(Asked::Expect(form)),
+        "unused" => Some(Asked::Unused(form)),
+        _ => None,
     }
-    if is_unused(command) {
-        return Some(Asked::Unused(form));
-    }
-    asked_as_text(form, command)
 }
 
 fn asked_between(form: Form, from: &str, to: &str) -> Option<Asked>

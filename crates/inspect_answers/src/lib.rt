@@ -8,6 +8,7 @@ mod comparing;
 mod diffing;
 mod expect_lines;
 mod expect_reader;
+mod expect_values;
 mod expectation;
 mod expecting;
 mod idle_answer;

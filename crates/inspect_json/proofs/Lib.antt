@@ -1,5 +1,5 @@
-mod Fit
+pub mod Fit
 pub mod NoFloats
 mod Named
-mod ReadBack
-mod SameSaid
+pub mod ReadBack
+pub mod SameSaid

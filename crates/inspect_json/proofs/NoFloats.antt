@@ -5,6 +5,11 @@ use Rattle.serde_json.specs.View.{items_of}
 use Rattle.serde_json.specs.Written.{has_float, items_have_float}
 use Rattle.ov_types.specs.declared.numbers.ServiceNo.{ServiceNo}
 use Rattle.ov_types.specs.declared.packet.RuleNo.{RuleNo}
+use Rattle.ov_types.specs.declared.packet.Outcome.{Outcome}
+use Rattle.ov_types.specs.declared.packet.Outcome.TheVariants as Comes
+use Rattle.ov_types.specs.declared.packet.Why.{Why}
+use Rattle.ov_types.specs.declared.packet.Why.TheVariants as Reason
+use Rattle.ov_types.specs.declared.numbers.PortNo.{PortNo}
 use Rattle.config_types.specs.declared.config.Config.{Config}
 use Rattle.inspect_changes.specs.declared.fate.Difference.{Difference}
 use Rattle.inspect_changes.specs.declared.fate.Fate.{Fate}
@@ -16,6 +21,7 @@ use Rattle.inspect_rules.specs.declared.idle.Idle.{Idle}
 use Rattle.inspect_rules.specs.declared.idle.Idle.TheVariants as Idles
 use Rattle.inspect_json.specs.IdleValues.{idle_chain_value, idle_policy_value, idle_rule_value, idle_value}
 use Rattle.inspect_json.specs.ChangeValues.{came_value, difference_value, fate_rule, fate_services, fate_value, network_value, object_value, port_name, port_value, service_object_value, subnet_value, went_value}
+use Rattle.inspect_json.specs.OutcomeValues.{delivered_value, denier_value, dropped_value, outcome_value, port_number_value, to_drop_value, to_drop_why_value, why_rule}
 use Rattle.inspect_json.specs.Values.{name_value, passage_services, policy_name, rule_value, service_name, service_value, way_value}
 
 lists : {A : Type 0} (value : A → Data) → ((x : A) → has_float (value x) ≡ false) → (xs : List A) → items_have_float (items_of (map value xs)) ≡ false
@@ -72,3 +78,32 @@ unfolding idle_rule_value idle_policy_value idle_chain_value
 idle c (Idles.Rule r before) = rw (lists (rule_value c) (rule c) before, rule c r) refl
 idle c (Idles.Policy name networks) = refl
 idle c (Idles.Chain name) = refl
+
+pub delivered : (c : Config) (port : PortNo) (services : List ServiceNo) → has_float (delivered_value c port services) ≡ false
+unfolding delivered_value port_number_value
+delivered c port services = rw (names (port_name c port.0), lists (service_value c) (service c) services) refl
+
+deniers : (c : Config) (o : Option RuleNo) → has_float (denier_value c o) ≡ false
+deniers c None = refl
+deniers c (Some r) = rule c r
+
+why_rules : (c : Config) (w : Why) → has_float (why_rule c w) ≡ false
+why_rules c Reason.NoSourcePort = refl
+why_rules c Reason.NoDestination = refl
+why_rules c Reason.NoRoute = refl
+why_rules c (Reason.Denied o) = deniers c o
+why_rules c Reason.NoLabel = refl
+why_rules c Reason.TtlExpired = refl
+
+pub outcome : (c : Config) (o : Outcome) → has_float (outcome_value c o) ≡ false
+unfolding dropped_value
+outcome c (Comes.Delivered port services) = delivered c port services
+outcome c (Comes.Dropped why) = rw (why_rules c why) refl
+
+pub to_drop : has_float to_drop_value ≡ false
+unfolding to_drop_value
+to_drop = refl
+
+pub to_drop_why : (why : List ℕ) → has_float (to_drop_why_value why) ≡ false
+unfolding to_drop_why_value
+to_drop_why why = refl

@@ -15,6 +15,11 @@ use Rattle.ov_types.proofs.Names.{name_is_utf8}
 use Rattle.ov_types.specs.declared.numbers.ServiceNo.{ServiceNo}
 use Rattle.ov_types.specs.declared.packet.Range16.{Range16}
 use Rattle.ov_types.specs.declared.packet.RuleNo.{RuleNo}
+use Rattle.ov_types.specs.declared.packet.Outcome.{Outcome}
+use Rattle.ov_types.specs.declared.packet.Outcome.TheVariants as Comes
+use Rattle.ov_types.specs.declared.packet.Why.{Why}
+use Rattle.ov_types.specs.declared.packet.Why.TheVariants as Reason
+use Rattle.ov_types.specs.declared.numbers.PortNo.{PortNo}
 use Rattle.config_types.specs.Form.{has_chain_form, has_config_form, has_network_form, has_policy_form, has_port_form, has_rule_form, has_service_form}
 use Rattle.config_types.specs.declared.config.Config.{Config}
 use Rattle.config_types.specs.declared.config.Policy.{Policy}
@@ -34,11 +39,12 @@ use Rattle.inspect_rules.specs.declared.idle.Idle.TheVariants as Idles
 use Rattle.inspect_json.specs.IdleValues.{idle_chain_value, idle_policy_value, idle_rule_value, idle_value}
 use Rattle.inspect_json.specs.ChangeValues.{came_value, difference_value, fate_rule, fate_services, fate_value, fate_word, network_value, object_value, port_value, service_object_value, subnet_value, went_value}
 use Rattle.inspect_json.specs.Form.{IsReadBack}
-use Rattle.inspect_json.specs.Sizes.{has_difference_size, has_fate_size, has_idle_size, has_object_size, has_range_size, has_region_size, has_rule_size, has_service_size, has_way_size}
+use Rattle.inspect_json.specs.Sizes.{has_delivery_size, has_denier_size, has_difference_size, has_fate_size, has_idle_size, has_object_size, has_outcome_size, has_range_size, has_region_size, has_rule_size, has_service_size, has_way_size, has_why_size}
+use Rattle.inspect_json.specs.OutcomeValues.{delivered_value, denier_value, dropped_value, outcome_value, port_number_value, to_drop_value, to_drop_why_value, why_rule, why_word}
 use Rattle.inspect_json.specs.Values.{list_value, name_value, passage_services, passage_word, policy_name, range_value, rule_value, service_name, service_value, way_value}
 use Rattle.inspect_json.proofs.Fit.{AreFit, IsFit, is_read_back}
 
-word : (s : List ℕ) → are_ascii s ≡ true → IsUtf8 s
+pub word : (s : List ℕ) → are_ascii s ≡ true → IsUtf8 s
 word s h = IsUtf8-are_ascii s h
 
 small : (n : ℕ) → nat_le n 65535 ≡ true → n < 2 ^ 64
@@ -402,3 +408,56 @@ idle c (Idles.Chain name) form h = idle_chain name h
 
 pub idle_reads : (c : Config) (x : Idle) → IsTrue (has_config_form c) → IsTrue (has_idle_size x) → IsReadBack (idle_value c x)
 idle_reads c x form h = is_read_back 3 (idle_value c x) (idle c x form h) (omega arith)
+
+-- what becomes of a packet
+
+port_number : (k : ℕ) (c : Config) (port : PortNo) → has_config_form c ≡ true → nat_le port.0 0xffff_ffff ≡ true → IsFit (suc k) (port_number_value c port)
+unfolding port_number_value
+port_number k c port form h =
+    ((word (codes "id") refl, omega (arith, leb-true port.0 0xffff_ffff h),
+    (word (codes "name") refl, found_name k (λ (p : Port). p.id.0 == port.0) has_port_form (λ (p : Port). p.name) port_name_form c.ports (ports_form c form), tt)), refl)
+
+pub delivered : (c : Config) (port : PortNo) (services : List ServiceNo) → has_config_form c ≡ true → has_delivery_size port services ≡ true
+    → IsFit 3 (delivered_value c port services)
+unfolding delivered_value
+delivered c port services form h =
+    let p = and_parts (nat_le port.0 0xffff_ffff) (list_all has_service_size services) h in
+    ((word (codes "fate") refl, word (codes "delivered") refl,
+    (word (codes "port") refl, port_number 1 c port form p.0,
+    (word (codes "services") refl, lists 1 (service_value c) has_service_size (service 0 c form) services p.1, tt))), refl)
+
+why_words : (w : Why) → IsUtf8 (why_word w)
+why_words Reason.NoSourcePort = word (codes "no-source-port") refl
+why_words Reason.NoDestination = word (codes "no-destination") refl
+why_words Reason.NoRoute = word (codes "no-route") refl
+why_words (Reason.Denied r) = word (codes "denied") refl
+why_words Reason.NoLabel = word (codes "no-label") refl
+why_words Reason.TtlExpired = word (codes "ttl-expired") refl
+
+deniers : (k : ℕ) (c : Config) (o : Option RuleNo) → has_config_form c ≡ true → has_denier_size o ≡ true → IsFit (suc k) (denier_value c o)
+deniers k c None form h = tt
+deniers k c (Some r) form h = rule k c r form h
+
+why_rules : (k : ℕ) (c : Config) (w : Why) → has_config_form c ≡ true → has_why_size w ≡ true → IsFit (suc k) (why_rule c w)
+why_rules k c Reason.NoSourcePort form h = tt
+why_rules k c Reason.NoDestination form h = tt
+why_rules k c Reason.NoRoute form h = tt
+why_rules k c (Reason.Denied r) form h = deniers k c r form h
+why_rules k c Reason.NoLabel form h = tt
+why_rules k c Reason.TtlExpired form h = tt
+
+pub outcome : (c : Config) (o : Outcome) → has_config_form c ≡ true → has_outcome_size o ≡ true → IsFit 3 (outcome_value c o)
+unfolding dropped_value
+outcome c (Comes.Delivered port services) form h = delivered c port services form h
+outcome c (Comes.Dropped why) form h =
+    ((word (codes "fate") refl, word (codes "dropped") refl,
+    (word (codes "rule") refl, why_rules 1 c why form h,
+    (word (codes "why") refl, why_words why, tt))), refl)
+
+pub to_drop : IsFit 3 to_drop_value
+unfolding to_drop_value
+to_drop = ((word (codes "fate") refl, word (codes "dropped") refl, tt), refl)
+
+pub to_drop_why : (why : List ℕ) → IsUtf8 why → IsFit 3 (to_drop_why_value why)
+unfolding to_drop_why_value
+to_drop_why why h = ((word (codes "fate") refl, word (codes "dropped") refl, (word (codes "why") refl, h, tt)), refl)

@@ -4,4 +4,5 @@ pub mod WayLines
 pub mod ChangeValues
 pub mod ChangeLines
 pub mod IdleValues
+pub mod OutcomeValues
 pub mod Sizes

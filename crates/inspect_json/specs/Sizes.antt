@@ -1,9 +1,14 @@
 -- Which things of lines have names of the form of names, and numbers of the sizes that their types have.
-use Rattle.std.specs.Prelude.{ℕ, ◌&&◌, ◌^◌, Bool, true, nat_le, nat_lt}
+use Rattle.std.specs.Prelude.{ℕ, ◌&&◌, ◌^◌, List, Bool, true, Option, Some, None, nat_le, nat_lt}
 use Rattle.std.specs.List.{list_all}
 use Rattle.ov_types.specs.Name.{is_name}
 use Rattle.ov_types.specs.declared.packet.Range16.{Range16}
 use Rattle.ov_types.specs.declared.packet.RuleNo.{RuleNo}
+use Rattle.ov_types.specs.declared.packet.Outcome.{Outcome}
+use Rattle.ov_types.specs.declared.packet.Outcome.TheVariants as Comes
+use Rattle.ov_types.specs.declared.packet.Why.{Why}
+use Rattle.ov_types.specs.declared.packet.Why.TheVariants as Reason
+use Rattle.ov_types.specs.declared.numbers.PortNo.{PortNo}
 use Rattle.ov_types.specs.declared.numbers.ServiceNo.{ServiceNo}
 use Rattle.policy_regions.specs.declared.region.Region.{Region}
 use Rattle.inspect_changes.specs.declared.fate.Difference.{Difference}
@@ -50,3 +55,18 @@ abbrev pub has_idle_size : Idle → Bool
 has_idle_size (Rule rule before) = has_rule_size rule && list_all has_rule_size before
 has_idle_size (Policy name networks) = is_name name && nat_lt networks (2 ^ 64)
 has_idle_size (Chain name) = is_name name
+
+abbrev pub has_delivery_size : PortNo → List ServiceNo → Bool
+has_delivery_size port services = nat_le port.0 0xffff_ffff && list_all has_service_size services
+
+abbrev pub has_denier_size : Option RuleNo → Bool
+has_denier_size None = true
+has_denier_size (Some rule) = has_rule_size rule
+
+abbrev pub has_why_size : Why → Bool
+has_why_size (Reason.Denied rule) = has_denier_size rule
+has_why_size _ = true
+
+abbrev pub has_outcome_size : Outcome → Bool
+has_outcome_size (Comes.Delivered port services) = has_delivery_size port services
+has_outcome_size (Comes.Dropped why) = has_why_size why

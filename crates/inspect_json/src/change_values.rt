@@ -16,7 +16,7 @@ use serde_json::{Value, json};
 use std::alloc::{AllocError, Global};
 
 /// The name of the first port of a number.
-fn port_name(config: &Config, number: u32) -> Option<Name>
+pub(crate) fn port_name(config: &Config, number: u32) -> Option<Name>
     ensures { result ≡ port_name config.now number }
 {
     let ports = config.ports.as_slice();

@@ -11,7 +11,7 @@ use std::alloc::Global;
 
 /// Appends a value that has no float as a line.
 #[tactic(auto, unfolding(crate::specs::Form::json_line))]
-pub(crate) fn append_line(alloc: Global, value: &Value, out: &mut TextOut) -> Result<(), NoMemory>
+pub fn append_line(alloc: Global, value: &Value, out: &mut TextOut) -> Result<(), NoMemory>
     requires { has_float (view value.now) ≡ false }
     ensures ok { OnOk result (out.new ≡ out.old ++ json_line (view value.now)) }
     ensures err { OnErr result (out.new ≡ out.old) }
