@@ -1,6 +1,6 @@
 -- Values that are the same say the same.
 use Rattle.std.proofs.Common.{◌≡◌, ◌≢◌, ◌∙◌, ℕ, suc, List, [], ◌∷◌, ◌++◌, length, map, codes, decimal, refl, sym, ap, arith}
-use Rattle.serde_json.specs.Data.{Data, null, boolean, number, string, array, object, unsigned, negative, float, Items, no_items, item, Members, no_members, member}
+use Rattle.serde_json.specs.Data.{Data, null, number, string, array, object, unsigned, Items, no_items, item, Members, no_members, member}
 use Rattle.serde_json.specs.View.{items_of}
 use Rattle.inspect_changes.specs.Report.Outcomes.{services_text}
 use Rattle.ov_types.specs.Rows.{rule_text}
@@ -8,7 +8,6 @@ use Rattle.ov_types.specs.declared.numbers.ServiceNo.{ServiceNo}
 use Rattle.ov_types.specs.declared.packet.Range16.{Range16}
 use Rattle.ov_types.specs.declared.packet.RuleNo.{RuleNo}
 use Rattle.config_types.specs.declared.config.Config.{Config}
-use Rattle.policy_regions.specs.declared.region.Region.{Region}
 use Rattle.inspect_changes.specs.DifferenceLines.{came_line, difference_line, fate_text, object_text, went_line}
 use Rattle.inspect_changes.specs.Lines.{passage_text, region_text, way_line}
 use Rattle.inspect_changes.specs.declared.fate.Difference.{Difference}
@@ -183,20 +182,20 @@ no_rule c r h = other_size (rule_value c r) null h 3 0 refl refl (λ e. cc)
 by_fate : (c d : Config) (f g : Fate) → fate_word f ≡ fate_word g → fate_rule c f ≡ fate_rule d g
     → list_value (service_value c) (fate_services f) ≡ list_value (service_value d) (fate_services g) → fate_text f ≡ fate_text g
 by_fate c d (Fates.Passed r) (Fates.Passed s) word rule services = λ i. codes "passed " ++ rule_text (same_rule c d r s rule i)
-by_fate c d (Fates.Passed r) (Fates.Through s xs) word rule services = absurd (other_letter _ _ word 112 116 refl refl (λ e. cc))
-by_fate c d (Fates.Passed r) (Fates.Denied s) word rule services = absurd (other_letter _ _ word 112 100 refl refl (λ e. cc))
-by_fate c d (Fates.Passed r) Fates.Unmatched word rule services = absurd (other_letter _ _ word 112 100 refl refl (λ e. cc))
-by_fate c d (Fates.Through r xs) (Fates.Passed s) word rule services = absurd (other_letter _ _ word 116 112 refl refl (λ e. cc))
+by_fate c d (Fates.Passed r) (Fates.Through s xs) word rule services = absurd (other_letter _ _ word 112 116 refl refl (λ e. omega (arith, e)))
+by_fate c d (Fates.Passed r) (Fates.Denied s) word rule services = absurd (other_letter _ _ word 112 100 refl refl (λ e. omega (arith, e)))
+by_fate c d (Fates.Passed r) Fates.Unmatched word rule services = absurd (other_letter _ _ word 112 100 refl refl (λ e. omega (arith, e)))
+by_fate c d (Fates.Through r xs) (Fates.Passed s) word rule services = absurd (other_letter _ _ word 116 112 refl refl (λ e. omega (arith, e)))
 by_fate c d (Fates.Through r xs) (Fates.Through s ys) word rule services =
     λ i. codes "through " ++ (rule_text (same_rule c d r s rule i) ++ (codes " services " ++ services_text (same_services c d xs ys services i)))
-by_fate c d (Fates.Through r xs) (Fates.Denied s) word rule services = absurd (other_letter _ _ word 116 100 refl refl (λ e. cc))
-by_fate c d (Fates.Through r xs) Fates.Unmatched word rule services = absurd (other_letter _ _ word 116 100 refl refl (λ e. cc))
-by_fate c d (Fates.Denied r) (Fates.Passed s) word rule services = absurd (other_letter _ _ word 100 112 refl refl (λ e. cc))
-by_fate c d (Fates.Denied r) (Fates.Through s ys) word rule services = absurd (other_letter _ _ word 100 116 refl refl (λ e. cc))
+by_fate c d (Fates.Through r xs) (Fates.Denied s) word rule services = absurd (other_letter _ _ word 116 100 refl refl (λ e. omega (arith, e)))
+by_fate c d (Fates.Through r xs) Fates.Unmatched word rule services = absurd (other_letter _ _ word 116 100 refl refl (λ e. omega (arith, e)))
+by_fate c d (Fates.Denied r) (Fates.Passed s) word rule services = absurd (other_letter _ _ word 100 112 refl refl (λ e. omega (arith, e)))
+by_fate c d (Fates.Denied r) (Fates.Through s ys) word rule services = absurd (other_letter _ _ word 100 116 refl refl (λ e. omega (arith, e)))
 by_fate c d (Fates.Denied r) (Fates.Denied s) word rule services = λ i. codes "denied " ++ rule_text (same_rule c d r s rule i)
 by_fate c d (Fates.Denied r) Fates.Unmatched word rule services = absurd (no_rule c r rule)
-by_fate c d Fates.Unmatched (Fates.Passed s) word rule services = absurd (other_letter _ _ word 100 112 refl refl (λ e. cc))
-by_fate c d Fates.Unmatched (Fates.Through s ys) word rule services = absurd (other_letter _ _ word 100 116 refl refl (λ e. cc))
+by_fate c d Fates.Unmatched (Fates.Passed s) word rule services = absurd (other_letter _ _ word 100 112 refl refl (λ e. omega (arith, e)))
+by_fate c d Fates.Unmatched (Fates.Through s ys) word rule services = absurd (other_letter _ _ word 100 116 refl refl (λ e. omega (arith, e)))
 by_fate c d Fates.Unmatched (Fates.Denied s) word rule services = absurd (no_rule d s (sym rule))
 by_fate c d Fates.Unmatched Fates.Unmatched word rule services = refl
 
