@@ -1,5 +1,5 @@
 -- Each tuple that both configurations let through goes as that of some cell does.
-use Rattle.std.proofs.Common.{◌≡◌, ◌≢◌, ◌≤◌, ◌<◌, ◌⊎◌, inl, inr, ◌+◌, ℕ, zero, suc, ◌&&◌, eqb, leb, ltb, min, length, get_or, Bool, true, false, cond, IsTrue, List, [], ◌∷◌, Option, Some, None, option_map, flat_map, map, refl, sym, ap, ◌∙◌, subst, arith}
+use Rattle.std.proofs.Common.{◌≡◌, ◌≢◌, ◌≤◌, ◌<◌, inl, inr, ◌+◌, ℕ, zero, suc, ◌&&◌, eqb, leb, ltb, min, length, get_or, Bool, true, false, cond, IsTrue, List, [], ◌∷◌, Option, Some, None, option_map, map, refl, sym, ap, ◌∙◌, subst, arith}
 use Rattle.std.specs.List.{All, AllPairs, Contains, count_by}
 use Rattle.std.proofs.lemmas.Bool.{and_parts}
 use Rattle.std.proofs.lemmas.Bool.Decides.{nat_tests}
@@ -8,7 +8,6 @@ use Rattle.std.proofs.lemmas.List.Kept.{AllPairs-cons}
 use Rattle.std.proofs.lemmas.List.Sums.{sum_by-cons}
 use Rattle.ov_types.specs.Access.{in_range}
 use Rattle.ov_types.specs.First.{same_name}
-use Rattle.ov_types.specs.declared.packet.Range16.{Range16}
 use Rattle.ov_types.specs.declared.packet.RuleNo.{RuleNo}
 use Rattle.ov_types.specs.declared.packet.Tuple.{Tuple}
 use Rattle.ov_types.proofs.FirstLemmas.{all_cons, all_head, all_tail, contains_at, contains_here, pairs_head, pairs_tail}

@@ -1,6 +1,6 @@
 -- The chain of a use is that of its rule, and its services stand at the compute nodes of a track.
-use Rattle.std.proofs.Common.{◌≡◌, ◌≢◌, ◌⊎◌, inl, inr, ◌+◌, ℕ, ◌&&◌, eqb, Bool, true, false, cond, IsTrue, List, [], ◌∷◌, ◌++◌, Option, Some, None, map, flat_map, refl, sym, ap, ◌∙◌, subst, arith}
-use Rattle.std.specs.List.{AllPairs, AllZip, Contains, find}
+use Rattle.std.proofs.Common.{◌≡◌, ◌≢◌, ◌⊎◌, inl, inr, ◌+◌, ℕ, ◌&&◌, eqb, Bool, true, false, cond, List, [], ◌∷◌, ◌++◌, Option, Some, None, map, flat_map, refl, sym, ap, ◌∙◌, arith}
+use Rattle.std.specs.List.{AllZip, Contains}
 use Rattle.std.specs.Option.{option_map_or}
 use Rattle.std.proofs.lemmas.Bool.{and_parts, eqb-true}
 use Rattle.std.proofs.lemmas.List.Elements.{All-contains}
@@ -25,7 +25,7 @@ use Rattle.policy_rules.specs.Standing.{Fits, IsBetween}
 use Rattle.policy_rules.specs.declared.numbered.NumberedRule.{NumberedRule}
 use Rattle.policy_rules.proofs.Lists.{is_mapped, mapped_is}
 use Rattle.policy_rules.proofs.Standing.{attaches_iff, fits_iff}
-use Rattle.policy_rules.proofs.Taking.{IsFirstAnswer, first_answer}
+use Rattle.policy_rules.proofs.Taking.{first_answer}
 use Rattle.config_check.specs.Checked.{Checked}
 use Rattle.config_check.specs.Finding.{node_named}
 use Rattle.config_check.specs.Rules.{node_names}

@@ -1,5 +1,5 @@
 -- Nothing differs between two ports exactly where both configurations offer both ways with one track each.
-use Rattle.std.proofs.Common.{◌≡◌, ◌≢◌, ◌⊎◌, inl, inr, ℕ, ◌&&◌, ◌||◌, not, eqb, Bool, true, false, cond, IsTrue, List, [], ◌∷◌, Option, Some, None, map, refl, sym, ap, ◌∙◌, subst}
+use Rattle.std.proofs.Common.{◌≡◌, ℕ, ◌&&◌, ◌||◌, not, eqb, Bool, true, false, IsTrue, List, Option, Some, None, map, refl, sym, ap, ◌∙◌, subst}
 use Rattle.std.proofs.lemmas.Bool.{and_parts, eqb-true}
 use Rattle.ov_types.specs.Prefix.{Block}
 use Rattle.ov_types.specs.declared.numbers.InstanceId.{InstanceId}
@@ -7,16 +7,13 @@ use Rattle.ov_types.specs.declared.numbers.PortNo.{PortNo}
 use Rattle.ov_types.specs.declared.packet.Packet.{Packet}
 use Rattle.ov_types.specs.declared.prefix.Addr.{Addr}
 use Rattle.config_types.specs.Form.{has_config_form}
-use Rattle.config_types.specs.declared.config.Network.{Network}
-use Rattle.config_types.specs.declared.config.Port.{Port}
-use Rattle.config_types.specs.declared.topology.Node.{Node}
 use Rattle.config_check.specs.Checked.{Checked}
 use Rattle.config_check.specs.Finding.{node_named}
 use Rattle.config_check.specs.Sentences.{IsValid}
 use Rattle.hitless_laws.specs.Keeping.{OfferAlike}
 use Rattle.hitless_laws.specs.Ways.{Offers, Track}
 use Rattle.hitless_cells.specs.Courses.{way_of}
-use Rattle.hitless_cells.specs.Lines.{difference_by, difference_of, first_difference, is_place, leads, listening, same_found, same_subnet, subnet_at, subnet_counts}
+use Rattle.hitless_cells.specs.Lines.{difference_by, difference_of, first_difference, leads, same_found, same_subnet, subnet_at, subnet_counts}
 use Rattle.hitless_cells.specs.Openings.{change_found, opened, opening_by, opening_of, stops_change, worse}
 use Rattle.hitless_cells.specs.declared.cells.Cell.{Cell}
 use Rattle.hitless_cells.specs.declared.changes.Change.{Change}
@@ -25,9 +22,6 @@ use Rattle.hitless_cells.specs.declared.course.Course.{Course}
 use Rattle.hitless_cells.specs.declared.course.Course.TheVariants.{Inside, Passing, Through}
 use Rattle.hitless_cells.specs.declared.ends.Ends.{Ends}
 use Rattle.hitless_cells.specs.declared.joints.Joint.{Joint}
-use Rattle.hitless_cells.specs.declared.lines.Difference.{Difference}
-use Rattle.hitless_cells.specs.declared.openings.Opening.{Opening}
-use Rattle.hitless_cells.specs.declared.openings.Opening.TheVariants.{NotBefore, NotAfter, Both}
 use Rattle.hitless_cells.specs.declared.stops.Stop.{Stop}
 use Rattle.hitless_cells.proofs.Chains.{stop_from, stops_apart}
 use Rattle.hitless_cells.proofs.Sameness.{both_true, found_block_is, found_block_self, found_node_is, node_self, none_worse, same_number, stops_are, stops_self, worse_none}

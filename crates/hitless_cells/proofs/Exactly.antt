@@ -1,5 +1,5 @@
 -- Each line is of a packet that is interrupted, and each packet that is not kept has a line.
-use Rattle.std.proofs.Common.{◌≡◌, ◌≢◌, ◌↔◌, ◌⊎◌, inl, inr, ℕ, ◌&&◌, eqb, Bool, true, false, cond, IsTrue, List, [], ◌∷◌, Option, Some, None, option_map, option_to_list, flat_map, refl, sym, ap, ◌∙◌, subst}
+use Rattle.std.proofs.Common.{◌≡◌, ◌≢◌, ◌↔◌, ◌⊎◌, inl, inr, ℕ, eqb, Bool, true, false, cond, IsTrue, List, [], ◌∷◌, Option, Some, None, option_map, option_to_list, refl, sym, ap, ◌∙◌, subst}
 use Rattle.std.specs.List.{Contains}
 use Rattle.std.proofs.lemmas.Bool.{and_parts, eqb-true}
 use Rattle.ov_types.specs.declared.numbers.PortNo.{PortNo}
@@ -7,16 +7,14 @@ use Rattle.ov_types.specs.declared.packet.Packet.{Packet}
 use Rattle.ov_types.specs.declared.packet.Tuple.{Tuple}
 use Rattle.ov_types.specs.declared.prefix.Addr.{Addr}
 use Rattle.ov_types.proofs.FirstLemmas.{contains_here}
-use Rattle.config_types.specs.Form.{has_config_form}
 use Rattle.config_types.specs.declared.config.Network.{Network}
-use Rattle.config_types.specs.declared.config.Port.{Port}
 use Rattle.policy_rules.proofs.Lists.{is_joined, joined_is}
 use Rattle.policy_regions.specs.Parts.{IsTuple}
 use Rattle.config_check.specs.Checked.{Checked}
 use Rattle.config_check.specs.Finding.{node_named}
 use Rattle.config_check.specs.Sentences.{IsValid}
 use Rattle.reach_plain.proofs.Kept.{valid}
-use Rattle.hitless_laws.specs.Keeping.{Delivers, IsHitless, IsValidAsWritten, Keep, OfferAlike}
+use Rattle.hitless_laws.specs.Keeping.{Delivers, IsHitless, IsValidAsWritten}
 use Rattle.hitless_laws.specs.Ways.{LeadsTo, Way}
 use Rattle.hitless_laws.proofs.Both.{two_keep}
 use Rattle.hitless_laws.proofs.Taken.{led_where_delivered}
@@ -34,14 +32,14 @@ use Rattle.hitless_cells.specs.declared.joints.Meeting.TheVariants.{ByNumber, By
 use Rattle.hitless_cells.specs.declared.lines.Difference.{Difference}
 use Rattle.hitless_cells.specs.declared.lines.Difference.TheVariants as Is
 use Rattle.hitless_cells.specs.declared.lines.Interruption.{Interruption}
-use Rattle.hitless_cells.proofs.Best.{IsNoLater, has_line, line_is, no_later}
+use Rattle.hitless_cells.proofs.Best.{has_line, line_is, no_later}
 use Rattle.hitless_cells.proofs.Celled.{IsCell, cells_are, has_cell, nothing, sole}
 use Rattle.hitless_cells.proofs.Differing.{kept_where_none, none_where_kept}
 use Rattle.hitless_cells.proofs.Narrow.{narrowed}
 use Rattle.hitless_cells.proofs.Joined.{AreEnds, MeetAt, ends_are, meet_at}
 use Rattle.hitless_cells.proofs.Ordered.{in_order}
 use Rattle.hitless_cells.proofs.Saying.{says_so}
-use Rattle.hitless_cells.proofs.Sameness.{both_true, number_apart, same_number}
+use Rattle.hitless_cells.proofs.Sameness.{both_true, same_number}
 use Rattle.hitless_cells.proofs.Sides.{Led, Side, led_by, leads_to}
 
 option_one : {A : Type 0} (o : Option A) (z : A) → Contains (option_to_list o) z → o ≡ Some z

@@ -1,6 +1,6 @@
 -- Which ports meet, and where.
-use Rattle.std.proofs.Common.{◌≡◌, ℕ, ◌&&◌, eqb, Bool, true, false, cond, IsTrue, List, [], ◌∷◌, Option, Some, None, filter, flat_map, refl, sym, ap, ◌∙◌, subst}
-use Rattle.std.specs.List.{All, Contains}
+use Rattle.std.proofs.Common.{◌≡◌, Bool, true, false, cond, List, [], ◌∷◌, filter, refl, sym, ap, ◌∙◌, subst}
+use Rattle.std.specs.List.{Contains}
 use Rattle.ov_types.specs.First.{same_name}
 use Rattle.ov_types.proofs.FirstLemmas.{contains_here, same_name_iff}
 use Rattle.config_types.specs.declared.config.Network.{Network}

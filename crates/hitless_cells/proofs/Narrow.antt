@@ -1,8 +1,8 @@
 -- What goes by two ways goes so with numbers of a packet too: rules name few protocols, and no port above the last.
-use Rattle.std.proofs.Common.{◌≡◌, ◌≢◌, ◌≤◌, ◌<◌, ◌+◌, ◌*◌, ◌⊎◌, inl, inr, ℕ, zero, suc, ◌&&◌, ◌||◌, eqb, leb, length, Bool, true, false, cond, IsTrue, List, [], ◌∷◌, ◌++◌, not, Option, Some, None, filter, flat_map, map, refl, sym, ap, ◌∙◌, subst, arith, length-append}
+use Rattle.std.proofs.Common.{◌≡◌, ◌≢◌, ◌≤◌, ◌<◌, ◌+◌, ◌*◌, inl, inr, ℕ, zero, suc, ◌&&◌, ◌||◌, eqb, leb, length, Bool, true, false, cond, IsTrue, List, [], ◌∷◌, ◌++◌, not, Option, Some, None, filter, flat_map, refl, sym, ap, ◌∙◌, subst, arith, length-append}
 use Rattle.std.specs.List.{All, Contains, find, list_all, list_any}
 use Rattle.std.specs.Option.{option_map_or}
-use Rattle.std.proofs.lemmas.Bool.{and_parts, eqb-true, le-leb, leb-false, leb-true}
+use Rattle.std.proofs.lemmas.Bool.{and_parts, le-leb, leb-false, leb-true}
 use Rattle.std.proofs.lemmas.List.Elements.{All-contains, Contains-append_left, Contains-append_right}
 use Rattle.ov_types.specs.Access.{in_range}
 use Rattle.ov_types.specs.Name.{is_name}
@@ -21,7 +21,7 @@ use Rattle.config_types.specs.declared.topology.Topology.{Topology}
 use Rattle.policy_rules.specs.Matching.{deciding, has_protocol, match_by, speaks_both_ways}
 use Rattle.policy_rules.specs.Related.{fits, rules_between}
 use Rattle.policy_rules.specs.Standing.{IsBetween}
-use Rattle.policy_rules.specs.Taking.{IsDeciding, IsTaken}
+use Rattle.policy_rules.specs.Taking.{IsTaken}
 use Rattle.policy_rules.specs.declared.matching.Match.{Match}
 use Rattle.policy_rules.specs.declared.numbered.NumberedRule.{NumberedRule}
 use Rattle.policy_rules.proofs.Lists.{is_joined, is_kept}
@@ -29,12 +29,12 @@ use Rattle.policy_rules.proofs.Standing.{between_iff}
 use Rattle.policy_rules.proofs.Taking.{deciding_iff}
 use Rattle.policy_regions.specs.Parts.{IsTuple}
 use Rattle.config_check.specs.Checked.{Checked}
-use Rattle.config_check.specs.Sentences.{AreDistinct, IsValid}
+use Rattle.config_check.specs.Sentences.{IsValid}
 use Rattle.config_check.proofs.Iffs.{list_all_true}
 use Rattle.reach_plain.proofs.Kept.{valid}
 use Rattle.hitless_laws.specs.Keeping.{IsValidAsWritten}
 use Rattle.hitless_laws.proofs.Named.{found_of}
-use Rattle.hitless_cells.specs.Courses.{course_by, course_of, course_on}
+use Rattle.hitless_cells.specs.Courses.{course_by, course_on}
 use Rattle.hitless_cells.specs.declared.course.Course.{Course}
 use Rattle.hitless_cells.specs.declared.course.Course.TheVariants.{Inside}
 use Rattle.hitless_cells.proofs.Celled.{nothing}

@@ -1,9 +1,7 @@
 -- What a line says of the ways is so.
 use Rattle.std.proofs.Common.{◌≡◌, ◌≢◌, ◌⊎◌, inl, inr, ℕ, ◌&&◌, ◌||◌, not, eqb, Bool, true, false, cond, IsTrue, List, [], ◌∷◌, Option, Some, None, map, refl, sym, ap, ◌∙◌, subst}
 use Rattle.std.specs.Cmp.Lexicographic.{pointwise}
-use Rattle.std.proofs.lemmas.Bool.{eqb-true}
 use Rattle.ov_types.specs.First.{same_name}
-use Rattle.ov_types.specs.Prefix.{Block}
 use Rattle.ov_types.specs.declared.numbers.InstanceId.{InstanceId}
 use Rattle.ov_types.specs.declared.numbers.PortNo.{PortNo}
 use Rattle.ov_types.specs.declared.numbers.ServiceNo.{ServiceNo}
@@ -15,11 +13,11 @@ use Rattle.config_types.specs.declared.topology.Node.{Node}
 use Rattle.config_check.specs.Checked.{Checked}
 use Rattle.config_check.specs.Finding.{node_named}
 use Rattle.config_check.specs.Sentences.{IsValid}
-use Rattle.hitless_laws.specs.Ways.{LeadsTo, Offers, Track, Way}
+use Rattle.hitless_laws.specs.Ways.{LeadsTo, Offers, Track}
 use Rattle.hitless_laws.proofs.Offered.{offered}
 use Rattle.hitless_cells.specs.Courses.{way_of}
 use Rattle.hitless_cells.specs.Interrupted.{AreOtherNetworks, AreOtherPlaces, AreOtherServices, AreOtherSubnets, AreOtherTracks, IsNotOffered, OffersOtherwise, SaysOfWays, place_of, places_of}
-use Rattle.hitless_cells.specs.Lines.{difference_by, difference_of, first_difference, leads, same_found, same_subnet, subnet_at, subnet_counts}
+use Rattle.hitless_cells.specs.Lines.{difference_by, difference_of, first_difference, leads, same_found, same_subnet, subnet_counts}
 use Rattle.hitless_cells.specs.Openings.{change_found, change_of, opened, opening_by, opening_of, stops_change, worse}
 use Rattle.hitless_cells.specs.declared.cells.Cell.{Cell}
 use Rattle.hitless_cells.specs.declared.changes.Change.{Change}

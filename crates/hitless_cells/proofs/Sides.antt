@@ -1,7 +1,7 @@
 -- What a configuration offers and takes between two ports, as it is computed.
-use Rattle.std.proofs.Common.{◌≡◌, ◌≢◌, ◌↔◌, ◌⊎◌, inl, inr, ℕ, ◌&&◌, ◌||◌, Bool, true, false, cond, IsTrue, List, [], ◌∷◌, Option, Some, None, IfSome, option_map, map, refl, sym, ap, ◌∙◌, subst}
+use Rattle.std.proofs.Common.{◌≡◌, ◌≢◌, ◌⊎◌, inl, inr, ℕ, ◌||◌, Bool, true, false, cond, IsTrue, List, [], Option, Some, None, IfSome, option_map, map, refl, sym, ap, ◌∙◌, subst}
 use Rattle.std.specs.Bool.{Decides}
-use Rattle.std.specs.List.{AllZip, Any, Contains, find, list_any}
+use Rattle.std.specs.List.{Any, Contains, list_any}
 use Rattle.std.proofs.lemmas.Bool.Decides.{Decides-or}
 use Rattle.std.proofs.lemmas.List.Elements.{All-contains}
 use Rattle.ov_types.specs.First.{same_name}
@@ -20,18 +20,18 @@ use Rattle.config_types.specs.declared.config.Network.{Network}
 use Rattle.config_types.specs.declared.config.Port.{Port}
 use Rattle.config_types.specs.declared.topology.Node.{Node}
 use Rattle.policy_rules.specs.Matching.{deciding}
-use Rattle.policy_rules.specs.Related.{are_related, imports, passes, rules_between}
+use Rattle.policy_rules.specs.Related.{are_related, passes, rules_between}
 use Rattle.policy_rules.specs.Standing.{AreRelated, PassesBetween}
 use Rattle.policy_rules.specs.Taking.{IsDeciding}
 use Rattle.policy_rules.specs.declared.matching.Match.{Match}
 use Rattle.policy_rules.proofs.Relations.{imports_iff, related_iff}
 use Rattle.policy_rules.proofs.Taking.{deciding_iff}
 use Rattle.config_check.specs.Checked.{Checked}
-use Rattle.config_check.specs.Finding.{network_named, node_named, port_numbered}
+use Rattle.config_check.specs.Finding.{network_named, node_named}
 use Rattle.config_check.specs.Rules.{network_names, node_names}
 use Rattle.config_check.specs.Sentences.{IsValid}
 use Rattle.config_check.proofs.Finders.{finds_network_named, finds_port_numbered}
-use Rattle.reach_plain.specs.Outcomes.{Goes, IsTowards, Leaves}
+use Rattle.reach_plain.specs.Outcomes.{IsTowards, Leaves}
 use Rattle.hitless_laws.specs.Ways.{Arrives, GoesBy, IsNodeNamed, LeadsTo, Offers, Opens, Track, Way}
 use Rattle.hitless_laws.specs.Ways.Way.{inside, passing, through}
 use Rattle.hitless_laws.proofs.Alone.{one_entered, one_own, one_track}
@@ -42,7 +42,7 @@ use Rattle.hitless_cells.specs.Openings.{opened, opened_between, opened_within, 
 use Rattle.hitless_cells.specs.declared.course.Course.{Course}
 use Rattle.hitless_cells.specs.declared.course.Course.TheVariants.{Inside, Passing, Through}
 use Rattle.hitless_cells.specs.declared.stops.Stop.{Stop}
-use Rattle.hitless_cells.proofs.Chains.{IsUsed, chain_stops, is_used, node_found, node_is_found, node_of, stop_from, stops_found, used_by}
+use Rattle.hitless_cells.proofs.Chains.{IsUsed, chain_stops, is_used, node_found, node_of, stop_from, stops_found, used_by}
 use Rattle.hitless_cells.proofs.Sameness.{apart, differs}
 
 -- a packet's two ports, with their networks

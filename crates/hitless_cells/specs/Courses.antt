@@ -1,5 +1,5 @@
 -- By which way a tuple goes from one network into another.
-use Rattle.std.specs.Prelude.{ℕ, Bool, Option, Some, None, if◌then◌else◌}
+use Rattle.std.specs.Prelude.{Bool, Option, Some, None, if◌then◌else◌}
 use Rattle.ov_types.specs.First.{same_name}
 use Rattle.ov_types.specs.declared.packet.Tuple.{Tuple}
 use Rattle.config_types.specs.declared.config.Action.{Action}
