@@ -5,6 +5,5 @@ mod Counting
 mod Meeting
 mod Otherwise
 mod Taken
-mod Keeping
 mod TookIdle
 mod Changed

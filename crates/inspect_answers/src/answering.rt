@@ -10,6 +10,7 @@ ghost use Rattle.inspect_changes.specs.Lines.{ways_text};
 ghost use Rattle.inspect_answers.specs.Runs.{Keeps, status_of};
 
 use crate::asked::Asked;
+use crate::editing::answer_edits;
 use crate::expecting::answer_expect;
 use crate::idle_answer::answer_unused;
 use crate::verdict::{Verdict, answer_unfit};
@@ -113,7 +114,7 @@ fn answer_ways<K: Sink>(
 }
 
 /// Writes what is answered to an input.
-#[tactic(auto, using(crate::proofs::Keeping::keeps))]
+#[tactic(auto, using(crate::proofs::Told::took_ways, crate::proofs::Taken::took_expected, crate::proofs::TookIdle::took_unused))]
 pub(crate) fn answer<K: Sink>(
     alloc: Global,
     asked: &Asked,
@@ -132,5 +133,6 @@ pub(crate) fn answer<K: Sink>(
         Asked::Ways(pairs) => answer_ways(alloc, pairs, octets, sink),
         Asked::Expect => answer_expect(alloc, octets, sink),
         Asked::Unused => answer_unused(alloc, octets, sink),
+        Asked::Hitless => answer_edits(alloc, octets, sink),
     }
 }
