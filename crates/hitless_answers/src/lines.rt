@@ -116,7 +116,10 @@ impl LinesOf<Interruption> for PacketLines {
         let to = line.to;
         let tuple = TupleText(line.tuple);
         let ways = WaysText(*line);
-        write!(out, "{number} from {from} to {to} tuple {tuple} was {ways}\n")
+        write!(
+            out,
+            "{number} from {from} to {to} tuple {tuple} was {ways}\n"
+        )
     }
 }
 
@@ -130,12 +133,7 @@ impl LinesOf<TiedFault> for RefusedLines {
     ghost lines = { λ r fault. refused_line r.number fault };
 
     #[tactic(auto, unfolding(crate::specs::Lines::refused_line))]
-    fn append(
-        &self,
-        _alloc: Global,
-        fault: &TiedFault,
-        out: &mut TextOut,
-    ) -> Result<(), NoMemory> {
+    fn append(&self, _alloc: Global, fault: &TiedFault, out: &mut TextOut) -> Result<(), NoMemory> {
         let number = self.number;
         let fault = TiedFaultText(fault);
         write!(out, "{number} refused {fault}\n")

@@ -6,7 +6,7 @@ ghost use Rattle.ov_io.specs.Inputs.{TookFront};
 ghost use Rattle.ov_io.specs.Pieces.{HasWriteCause, IsOnItsWay};
 ghost use Rattle.config_types.specs.Form.{has_edit_form};
 ghost use Rattle.hitless_answers.specs.Judging.{judgements, standing};
-ghost use Rattle.hitless_answers.specs.Lines.{hitless_text, judgement_text, lines_from, made_text, packet_line};
+ghost use Rattle.hitless_answers.specs.Lines.{hitless_text, judgement_text, lines_from, made_text};
 
 use crate::judging::{Judge, Judgement};
 use crate::lines::{PacketLines, RefusedLines, push_count, push_hitless};
@@ -15,25 +15,25 @@ use config_check::Valid;
 use config_types::Edit;
 use hitless_cells::Interruption;
 use ov_io::{Sink, TextOut, WriteRefusal, write_gathered};
+use report::LinesOf;
 use std::alloc::Global;
 
-/// Hands on the lines of packets.
-fn write_packets<K: Sink>(
+/// Hands on the lines of each thing, in order.
+fn write_each<K: Sink, T, W: LinesOf<T>>(
     alloc: Global,
-    number: usize,
-    packets: &[Interruption],
+    lines: &W,
+    items: &[T],
     sink: &mut K,
     gathered: &mut TextOut,
 ) -> Result<(), WriteRefusal>
     ensures ok { OnOk result (IsOnItsWay (K.taken sink.old) (K.taken sink.new) gathered.new []
-        (gathered.old ++ flat_map (packet_line number) packets.now)) }
+        (gathered.old ++ flat_map (W.lines lines.now) items.now)) }
     ensures front { OnErr result (TookFront (K.taken sink.old) (K.taken sink.new)
-        (gathered.old ++ flat_map (packet_line number) packets.now)) }
+        (gathered.old ++ flat_map (W.lines lines.now) items.now)) }
     ensures cause { HasWriteCause (K.faults sink.old) (K.faults sink.new) result }
 {
-    let lines = PacketLines { number };
-    for packet in packets {
-        write_one(alloc, &lines, packet, sink, gathered)?;
+    for item in items {
+        write_one(alloc, lines, item, sink, gathered)?;
     }
     Ok(())
 }
@@ -58,7 +58,7 @@ fn write_made<K: Sink>(
     } else {
         push_count(number, packets.len(), gathered)?;
     }
-    write_packets(alloc, number, packets, sink, gathered)
+    write_each(alloc, &PacketLines { number }, packets, sink, gathered)
 }
 
 /// Hands on the lines of what is said of an edit.
