@@ -108,7 +108,7 @@ in_slice h k v m =
 one_list : (h : agent.Holdings) (k : LowKey) (v w : LowValue) → Member (k, v) (agent.rows h).acls → Member (k, w) (agent.rows h).acls → v ≡ w
 one_list h k v w in_v in_w = one_object h k v w (in_slice h k v in_v) (in_slice h k w in_w)
 
-verdicts : (cs : List Checked) (w : MachineState) → StandsNow cs w → WhatIsCommonStays cs w → AccessListsAreOfSome cs w → VerdictsAreOfSome cs w
+pub verdicts : (cs : List Checked) (w : MachineState) → StandsNow cs w → WhatIsCommonStays cs w → AccessListsAreOfSome cs w → VerdictsAreOfSome cs w
 unfolding verdict
 verdicts cs w among stay of_some n p from to h =
     let lists = (rows_at w n).acls in
