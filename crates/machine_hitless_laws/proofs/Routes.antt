@@ -142,28 +142,22 @@ module _ (b : Checked) (ds : List Checked) (written : (c : Checked) → Member c
         ]
 
     -- ---- all routes
-    pub all_there : (most : ℕ) → ((s : Side) → Member s (sides M) → s.chain.services ≤ most) → most + 5 ≤ r → (i : InstanceId) (prefix : Block) (hop : RouteEntry) → Member (route_at i prefix hop) (agent_rows M n.address).routes → (ChangesHands cs i prefix → ⊥) → Member (route_at i prefix hop) (agent.routes held)
-    all_there most bound rank i prefix hop m keeps = by_kind (is_hop i) refl
+    pub all_there : 5 ≤ r → (i : InstanceId) (prefix : Block) (hop : RouteEntry) → ((row : TableRow) (t : SubnetRow M i prefix row) → 5 + suc t.d ≤ r) → Member (route_at i prefix hop) (agent_rows M n.address).routes → (ChangesHands cs i prefix → ⊥) → Member (route_at i prefix hop) (agent.routes held)
+    all_there five i prefix hop last m keeps = by_kind (is_hop i) refl
       where
-        five : (r : ℕ) → most + 5 ≤ r → 5 ≤ r
-        five r h = omega (arith, h)
-
-        last : (d k r : ℕ) → d < k → k ≤ most → most + 5 ≤ r → 5 + suc d ≤ r
-        last d k r g h e = omega (arith, g, h, e)
-
         c : IsCompiled M n.address i prefix hop
         c = compiled_is M n.address i prefix hop m
 
         by_kind : (a : Bool) → is_hop i ≡ a → Member (route_at i prefix hop) (agent.routes held)
-        by_kind false net = network_route_there (five r rank) i prefix hop net m keeps
+        by_kind false net = network_route_there five i prefix hop net m keeps
         by_kind true is = elim c.kind as (λ _. Member (route_at i prefix hop) (agent.routes held)) [
           | inl q ↦
-              route_there (five r rank) i prefix hop c.needed
-              (inl (record { rank = five r rank; needed = record { node = n; stays = stays; name_is = refl; needed = c.needed }; to = q.to; attached = q.attached; imported = q.imported; prefix_is = q.prefix }))
+              route_there five i prefix hop c.needed
+              (inl (record { rank = five; needed = record { node = n; stays = stays; name_is = refl; needed = c.needed }; to = q.to; attached = q.attached; imported = q.imported; prefix_is = q.prefix }))
               (λ h e. host_hop q.to c.row hop h q.row c.hop_is (hop_host_row b ds written i is q.to q.attached q.imported h.next_hop h.label (subst (λ (p : Block). RowStood cs i p h.next_hop h.label) (sym q.prefix) e)))
           | inr q ↦
-              route_there (five r rank) i prefix hop c.needed
-              (inr (record { needed = record { node = n; stays = stays; name_is = refl; needed = c.needed }; row = c.row; led = q; rank = last q.d q.side.chain.services r q.within (bound q.side q.of_use) rank }))
+              route_there five i prefix hop c.needed
+              (inr (record { needed = record { node = n; stays = stays; name_is = refl; needed = c.needed }; row = c.row; led = q; rank = last c.row q }))
               (λ h e. host_hop q.to c.row hop h q.row c.hop_is (subnet_row b ds written i prefix c.row q is h.next_hop h.label e))
         ]
 
@@ -174,11 +168,17 @@ module _ (b : Checked) (ds : List Checked) (written : (c : Checked) → Member c
         record {
           labels = labels_above (slice M n.address) (slice_in_use held) had;
           acls = lists_above (slice M n.address) (slice_in_use held) had;
-          routes = λ r m keeps. all_there most bound rank r.0.0 r.0.1 r.1 m keeps;
+          routes = λ r' m keeps. all_there (five most r rank) r'.0.0 r'.0.1 r'.1 (λ row t. last t.d t.side.chain.services r t.within (bound t.side t.of_use) rank) m keeps;
         }
       where
         two : (most r : ℕ) → most + 5 ≤ r → 2 ≤ r
         two most r h = omega (arith, h)
+
+        five : (most r : ℕ) → most + 5 ≤ r → 5 ≤ r
+        five most r h = omega (arith, h)
+
+        last : (d k r : ℕ) → d < k → k ≤ most → most + 5 ≤ r → 5 + suc d ≤ r
+        last d k r g h e = omega (arith, g, h, e)
 
 fifteen : 15 + 5 ≤ 21
 fifteen = omega arith

@@ -51,9 +51,9 @@ use Rattle.machine_laws.proofs.Found.{attached_in}
 use Rattle.machine_laws.proofs.Placing.{agent_named}
 use Rattle.machine_laws.proofs.Views.{views}
 use Rattle.machine_hitless_laws.specs.Arriving.{StartsWhereCommon, agent_at_node}
-use Rattle.machine_hitless_laws.specs.Common.{WhatIsCommonStays, common, rows_at, standing}
+use Rattle.machine_hitless_laws.specs.Common.{common, rows_at, standing}
 use Rattle.machine_hitless_laws.specs.Windows.{AtMomentsOfWindows}
-use Rattle.machine_hitless_laws.proofs.Arriving.{key_of, labelled}
+use Rattle.machine_hitless_laws.proofs.Arriving.{LabelsStay, key_of, labelled}
 use Rattle.machine_hitless_laws.proofs.Here.{Here, here_laid, here_sound, stands_among}
 use Rattle.machine_hitless_laws.proofs.Lasting.{holds_kept, some_kept, stood_kept}
 use Rattle.machine_hitless_laws.proofs.Moments.{all_are_written, every_moment, first_one, others}
@@ -172,14 +172,14 @@ under_port : (o : Option Attached) (f : Forwarder) (s : Source) → option_map (
 under_port (Some what) f s e = (what, refl)
 under_port None f s e = absurd (none_some s e)
 
-module _ (b : Checked) (ds : List Checked) (written : (c : Checked) → Member c (b ∷ ds) → IsWritten (opening c)) (w : MachineState) (here : Here b ds written w.setup (map nodes w.sessions)) (r : ℕ) (two : 2 ≤ r) (to : Each (HoldsTo b ds written r) w.sessions) (some : Each (AreSomeTo (b ∷ ds) r) w.sessions) (st : Each (HoldStood (b ∷ ds) b.topology.asn r) w.sessions) (stay : WhatIsCommonStays (b ∷ ds) w) where
+module _ (b : Checked) (ds : List Checked) (written : (c : Checked) → Member c (b ∷ ds) → IsWritten (opening c)) (w : MachineState) (here : Here b ds written w.setup (map nodes w.sessions)) (r : ℕ) (two : 2 ≤ r) (to : Each (HoldsTo b ds written r) w.sessions) (some : Each (AreSomeTo (b ∷ ds) r) w.sessions) (st : Each (HoldStood (b ∷ ds) b.topology.asn r) w.sessions) (stay : LabelsStay (b ∷ ds) w) where
   pub start_common : StartsWhereCommon (b ∷ ds) w
   start_common n from p h =
       let nodes_now : List Node = w.setup.topology.nodes in
       let f : Node → Forwarder = agent_at_node w in
       let label : LabelNo = port_label_of p.source in
       let n_there : Member n nodes_now = stands_among b ds written n h.stays (checked w.setup) here.among in
-      let mine_label = (stay n h.stays).labels (label, Port p.source from) h.label in
+      let mine_label = stay n h.stays (label, Port p.source from) h.label in
       let has : source_at p (f n) ≡ Some (f n, from) = ap (λ (o : Option Attached). option_map (λ (i : InstanceId). (f n, i)) (as_port o)) (labelled (held_by_agent w n.name) label (Port p.source from) mine_label) in
       let ours = from_filter_map (λ (e : LowKey × LowValue). attached e.0 e.1) (label, Port p.source from) (slice (common (b ∷ ds)) n.address) h.label in
       let our_key : ours.0.0 ≡ key.Attach label.0 = key_of ours.0.0 ours.0.1 (label, Port p.source from) ours.2 in
@@ -211,4 +211,4 @@ start_where_common size positive x written before asked begins es window form =
     let to = holds_kept b ds valid 5 w.sessions all.1 in
     let some = some_kept b ds valid 5 w.sessions all.1 in
     let st = stood_kept b ds valid 5 w.sessions all.1 in
-    start_common b ds valid w all.0 5 two_of_five to some st (what_is_common_stays size positive x written before asked begins es window form)
+    start_common b ds valid w all.0 5 two_of_five to some st (λ n m. (what_is_common_stays size positive x written before asked begins es window form n m).labels)
