@@ -15,7 +15,6 @@ use Rattle.machine_model.specs.Moments.{Each, nodes}
 use Rattle.machine_model.specs.Network.{agent_holdings, sessions_of, start}
 use Rattle.machine_model.specs.Session.{Session}
 use Rattle.machine_model.specs.Setup.{Setup, opening}
-use Rattle.machine_model.proofs.Twins.{each_weaker}
 use Rattle.machine_laws.specs.Compiled.{agent_rows}
 use Rattle.machine_laws.specs.Headline.{IsWritten}
 use Rattle.machine_laws.proofs.Views.{views}

@@ -33,7 +33,6 @@ use Rattle.machine_model.specs.Moments.{Each, nodes}
 use Rattle.machine_model.specs.Network.{agent_holdings, sessions_of, start}
 use Rattle.machine_model.specs.Session.{Agent, Controller, Role, Session}
 use Rattle.machine_model.specs.Setup.{Name, Setup, opening}
-use Rattle.machine_model.proofs.Twins.{each_weaker}
 use Rattle.machine_laws.specs.Compiled.{Attachment, agent_rows, compiled_table, row_of, rows_in, table_rows}
 use Rattle.machine_laws.specs.Goal.{role_of}
 use Rattle.machine_laws.specs.Headline.{IsWritten}
