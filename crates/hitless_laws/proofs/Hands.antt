@@ -78,7 +78,7 @@ module _ (p : Packet) (number : PortNo) (way : Way) (track : Track) where
           ]
         ]
 
-    across : Change x y → other ≡ track.to
+    pub across : Change x y → other ≡ track.to
     across (inl same) = same_networks same
     across (inr one) = but_for_one one
 

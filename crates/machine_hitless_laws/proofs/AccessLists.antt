@@ -1,6 +1,6 @@
 -- Each access list that an agent has in use is that of some configuration of the window so far.
 use Rattle.std.specs.List.{AllByRecursion}
-use Rattle.std.specs.Prelude.{List, cond, false, true, ℕ, [], ◌∷◌, ◌≡◌}
+use Rattle.std.specs.Prelude.{List, ◌≤◌, cond, false, true, ℕ, [], ◌∷◌, ◌≡◌}
 use Rattle.std.specs.declared.option.Option.TheVariants.{Some}
 use Rattle.std.proofs.Common.{inl, inr, refl, subst}
 use Rattle.std.proofs.lemmas.Option.{same_Some}
@@ -20,8 +20,9 @@ use Rattle.machine_model.specs.Events.{MachineEvent, after}
 use Rattle.machine_model.specs.Events.{agent_rows as held_by_agent}
 use Rattle.machine_model.specs.Moments.{ArePositive, Each, EditsAreValid}
 use Rattle.machine_model.specs.Network.{MachineState, sessions_of, start}
-use Rattle.machine_model.specs.Session.{Message, Session}
+use Rattle.machine_model.specs.Session.{Message, Session, turned}
 use Rattle.machine_model.specs.Setup.{Name, checked, opening}
+use Rattle.machine_model.proofs.Twins.{all_to_own, each_weaker}
 use Rattle.machine_laws.specs.Headline.{IsOfForm, IsWritten}
 use Rattle.machine_laws.specs.Settling.{FairMap}
 use Rattle.machine_laws.proofs.EachFact.{Keeps, after_keeps}
@@ -30,7 +31,7 @@ use Rattle.machine_laws.proofs.Wants.{agent_holds}
 use Rattle.machine_hitless_laws.specs.Common.{AccessListsAreOfSome}
 use Rattle.machine_hitless_laws.specs.Windows.{AtMomentsOfWindows, IsBeginning, configurations}
 use Rattle.machine_hitless_laws.proofs.Beginning.{IsAmong, edits_among, first_apart, first_rests}
-use Rattle.machine_hitless_laws.proofs.OfSome.{AllOfSome, AreOfSome, ObjectOfSome, begins_of_some, none_of_some, of_some, own_of_some, wants_of_some}
+use Rattle.machine_hitless_laws.proofs.OfSome.{AllOfSome, AreOfSome, AreSomeTo, ObjectOfSome, all_some, begins_of_some, none_of_some, of_some, own_of_some, wants_of_some}
 
 module _ (cs : List Checked) where
   slice_of_some : (hs : agent.Holdings) → AllByRecursion (λ h. AllOfSome cs h.map) hs → (k : LowKey) (v : LowValue) → Member (k, v) (slice_in_use hs) → ObjectOfSome cs k v
@@ -48,6 +49,15 @@ module _ (cs : List Checked) where
   lists_of_some hs a k v m =
       let q = from_filter_map (λ (e : LowKey × LowValue). acl_entry e.0 e.1) (k, v) (slice_in_use hs) m in
       entry_is q.0.0 q.0.1 (k, v) q.2 (slice_of_some hs a q.0.0 q.0.1 q.1)
+
+-- where each object that is held is of some configuration from a rank on
+pub lists_held : (cs : List Checked) (r : ℕ) → 2 ≤ r → (w : MachineState) → Each (AreSomeTo cs r) w.sessions → AccessListsAreOfSome cs w
+lists_held cs r h w e n there k v m =
+    lists_of_some cs (held_by_agent w n.name)
+    (agent_holds (AllOfSome cs) (none_of_some cs) w.setup n.name (sessions_of n.name w.sessions)
+    (all_to_own (λ s. AllOfSome cs s.near.held) n.name w.sessions
+    (each_weaker (AreSomeTo cs r) (λ s. AllOfSome cs s.near.held × AllOfSome cs (turned s).near.held)
+    (λ s f. (all_some cs r h (s.far.name, s.far.role) (s.near.name, s.near.role) s.near.held f.0, all_some cs r h (s.near.name, s.near.role) (s.far.name, s.far.role) s.far.held f.1)) w.sessions e))) k v m
 
 module _ (size : Name → Message → ℕ) (positive : ArePositive size) (x : Checked) (written : IsWritten (opening x)) (before : List MachineEvent) (asked : EditsAreValid size IsOfForm (start x) before) (begins : IsBeginning (after size (start x) before)) (es : List MachineEvent) where
   abbrev began : MachineState

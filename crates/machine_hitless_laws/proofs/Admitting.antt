@@ -23,7 +23,9 @@ use Rattle.machine_model.specs.Events.{after}
 use Rattle.machine_model.specs.Events.{agent_rows as held_by_agent}
 use Rattle.machine_model.specs.Network.{MachineState, start}
 use Rattle.machine_hitless_laws.specs.Arriving.{StandsNow, VerdictsAreOfSome}
-use Rattle.machine_hitless_laws.specs.Common.{AccessListsAreOfSome, WhatIsCommonStays, rows_at}
+use Rattle.config_types.specs.declared.topology.Node.{Node}
+use Rattle.machine_laws.specs.Compiled.{agent_rows as common_rows}
+use Rattle.machine_hitless_laws.specs.Common.{AccessListsAreOfSome, common, rows_at, standing}
 use Rattle.machine_hitless_laws.specs.Windows.{AtMomentsOfWindows, configurations}
 use Rattle.machine_hitless_laws.proofs.AccessLists.{access_lists_are_of_some}
 use Rattle.machine_hitless_laws.proofs.Arriving.{one_object, present_stands}
@@ -108,12 +110,15 @@ in_slice h k v m =
 one_list : (h : agent.Holdings) (k : LowKey) (v w : LowValue) → Member (k, v) (agent.rows h).acls → Member (k, w) (agent.rows h).acls → v ≡ w
 one_list h k v w in_v in_w = one_object h k v w (in_slice h k v in_v) (in_slice h k w in_w)
 
-verdicts : (cs : List Checked) (w : MachineState) → StandsNow cs w → WhatIsCommonStays cs w → AccessListsAreOfSome cs w → VerdictsAreOfSome cs w
+abbrev pub ListsStay : List Checked → MachineState → Type 0
+ListsStay cs w = (n : Node) → Member n (standing cs) → (k : LowKey) (v : LowValue) → Member (k, v) (common_rows (common cs) n.address).acls → (u : LowValue) × Member (k, u) (rows_at w n).acls
+
+pub verdicts : (cs : List Checked) (w : MachineState) → StandsNow cs w → ListsStay cs w → AccessListsAreOfSome cs w → VerdictsAreOfSome cs w
 unfolding verdict
 verdicts cs w among stay of_some n p from to h =
     let lists = (rows_at w n).acls in
     let here = among n h.stays in
-    let had = (stay n h.stays).acls (key.Acl from to) h.list h.is_list in
+    let had = stay n h.stays (key.Acl from to) h.list h.is_list in
     let some = of_some n here (key.Acl from to) had.0 had.1 in
     let met_there = h.meets some.0 had.0 some.1 some.2 in
     let x : Access = record { to = to; rules = met_there.1 } in
@@ -144,5 +149,5 @@ verdicts_are_of_some size positive x written before asked begins es window form 
     let w = after size (after size (start x) before) es in
     let cs = configurations size (after size (start x) before) es in
     verdicts cs w now.1
-    (what_is_common_stays size positive x written before asked begins es window form)
+    (λ n m. (what_is_common_stays size positive x written before asked begins es window form n m).acls)
     (access_lists_are_of_some size positive x written before asked begins es window form)

@@ -4,7 +4,7 @@ use Rattle.std.specs.FinMap.{empty, get}
 use Rattle.std.specs.List.{AllByRecursion}
 use Rattle.std.specs.declared.option.Option.{Option}
 use Rattle.std.specs.declared.option.Option.TheVariants.{None, Some}
-use Rattle.std.proofs.Common.{ap, arith, inl, inr, subst, sym, ◌∙◌}
+use Rattle.std.proofs.Common.{ap, inl, inr, subst, sym, ◌∙◌}
 use Rattle.std.proofs.lemmas.Bool.{true≢false}
 use Rattle.std.proofs.lemmas.Option.{same_Some}
 use Rattle.ov_types.specs.Prefix.{Block, contains, host_prefix}
@@ -43,11 +43,11 @@ use Rattle.machine_laws.proofs.Written.{sound_setup}
 use Rattle.machine_hitless_laws.specs.Common.{ChangesHands, common, standing}
 use Rattle.machine_hitless_laws.proofs.Here.{Here}
 use Rattle.machine_hitless_laws.proofs.InUse.{mine_own}
-use Rattle.machine_hitless_laws.proofs.OfSome.{AreOfSome}
+use Rattle.machine_hitless_laws.proofs.OfSome.{AreSomeTo}
 use Rattle.machine_hitless_laws.proofs.Routes.{IsCompiled, compiled_is, host_hop, route_at}
-use Rattle.machine_hitless_laws.proofs.Says.{Mine, StaysTo}
+use Rattle.machine_hitless_laws.proofs.Says.{HoldsTo, Mine}
 use Rattle.machine_hitless_laws.proofs.Static.{led_hop, network_row}
-use Rattle.machine_hitless_laws.proofs.Stood.{AreStood, HostStood, LedStood, RowStood}
+use Rattle.machine_hitless_laws.proofs.Stood.{HoldStood, HostStood, LedStood, RowStood}
 
 -- what is attached has a host's prefix
 abbrev pub IsHost : Block → Type 0
@@ -123,25 +123,22 @@ module _ (b : Checked) (ds : List Checked) (written : (c : Checked) → Member c
       by (inl h) = subst IsHost h.at (host_of (low_in h.config) h.to h.attached)
       by (inr l) = absurd (true≢false (sym (led_hop b ds written q.2.name q.0 p hop.label l) ∙ small))
 
-  module _ (r : ℕ) (x : Setup) (ss : List Session) (here : Here b ds written x (map nodes ss)) (lasting_stays : Each (StaysTo b ds written r) ss) (some : Each (AreOfSome cs) ss) (st : Each (AreStood cs b.topology.asn 4) ss) (n : Node) (stays : Member n (standing cs)) where
+  module _ (r : ℕ) (x : Setup) (ss : List Session) (here : Here b ds written x (map nodes ss)) (lasting_stays : Each (HoldsTo b ds written r) ss) (some : Each (AreSomeTo cs r) ss) (st : Each (HoldStood cs b.topology.asn r) ss) (n : Node) (stays : Member n (standing cs)) where
     abbrev held : agent.Holdings
     held = agent_holdings x n.name (views (sessions_of n.name ss))
 
-    four : 4 ≤ 4
-    four = omega arith
-
-    pub held_route : (i : InstanceId) (p : Block) (hop : RouteEntry) → Member (route_at i p hop) (agent.routes held) → RowStood cs i p hop.next_hop hop.label
-    held_route i p hop m =
+    pub held_route : 5 ≤ r → (i : InstanceId) (p : Block) (hop : RouteEntry) → Member (route_at i p hop) (agent.routes held) → RowStood cs i p hop.next_hop hop.label
+    held_route rank i p hop m =
         routed cs held
         (agent_holds (RowsStood cs) (no_rows cs) x n.name (sessions_of n.name ss)
-        (each_weaker (Mine b ds written r x n.name) (λ s. RowsStood cs s.near.held) (λ s q i p h e. q.told (Row i p) (Entry h) e four) (sessions_of n.name ss) (mine_own b ds written r x ss here lasting_stays some st n stays)))
+        (each_weaker (Mine b ds written r x n.name) (λ s. RowsStood cs s.near.held) (λ s q i p h e. q.told (Row i p) (Entry h) e rank) (sessions_of n.name ss) (mine_own b ds written r x ss here lasting_stays some st n stays)))
         i p hop ((route_is held i p hop).0 m).1
 
-    pub alone_in_network : (i : InstanceId) (p q : Block) (hop other : RouteEntry) (d : ℕ) → is_hop i ≡ false → Member (route_at i p hop) (agent_rows M n.address).routes → (ChangesHands cs i p → ⊥) → Member (route_at i q other) (agent.routes held) → contains p d ≡ true → contains q d ≡ true → route_at i q other ≡ route_at i p hop
-    alone_in_network i p q hop other d net m keeps there in_p in_q = by (compiled_is M n.address i p hop m)
+    pub alone_in_network : 5 ≤ r → (i : InstanceId) (p q : Block) (hop other : RouteEntry) (d : ℕ) → is_hop i ≡ false → Member (route_at i p hop) (agent_rows M n.address).routes → (ChangesHands cs i p → ⊥) → Member (route_at i q other) (agent.routes held) → contains p d ≡ true → contains q d ≡ true → route_at i q other ≡ route_at i p hop
+    alone_in_network rank i p q hop other d net m keeps there in_p in_q = by (compiled_is M n.address i p hop m)
       where
         told : RowStood cs i q other.next_hop other.label
-        told = held_route i q other there
+        told = held_route rank i q other there
 
         by : IsCompiled M n.address i p hop → route_at i q other ≡ route_at i p hop
         by c = elim c.kind as (λ _. route_at i q other ≡ route_at i p hop) [

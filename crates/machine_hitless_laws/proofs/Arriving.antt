@@ -41,9 +41,10 @@ use Rattle.machine_model.specs.Events.{after, forwarders}
 use Rattle.machine_model.specs.Events.{agent_rows as held_by_agent}
 use Rattle.machine_model.specs.Network.{MachineState, start}
 use Rattle.machine_model.specs.Setup.{checked}
+use Rattle.machine_laws.specs.Compiled.{agent_rows}
 use Rattle.machine_laws.specs.Headline.{IsWritten}
 use Rattle.machine_hitless_laws.specs.Arriving.{GoesTheCommonWay, LeadsInCommon, StandsNow, agent_at_node}
-use Rattle.machine_hitless_laws.specs.Common.{NothingElseLeads, WhatIsCommonStays, rows_at}
+use Rattle.machine_hitless_laws.specs.Common.{NothingElseLeads, WhatIsCommonStays, common, rows_at, standing}
 use Rattle.machine_hitless_laws.specs.Windows.{AtMomentsOfWindows, configurations}
 use Rattle.machine_hitless_laws.proofs.Here.{stands_among}
 use Rattle.machine_hitless_laws.proofs.LedAlone.{nothing_else_leads}
@@ -132,24 +133,32 @@ agent_is w written n there address at =
 
 -- ---- the walk
 -- where the common part leads an address, the agents do
-module _ (cs : List Checked) (w : MachineState) (written : IsWritten w.setup) (among : StandsNow cs w) (stays : WhatIsCommonStays cs w) (alone : NothingElseLeads cs w) where
-  one_step : (n next : Node) (i : InstanceId) (d : ℕ) (what : Attached) (left : ℕ) (before : List ServiceNo) → LeadsInCommon cs n i d next what
+abbrev pub LabelsStay : List Checked → MachineState → Type 0
+LabelsStay cs w = (n : Node) → Member n (standing cs) → (l : LabelNo × Attached) → Member l (agent_rows (common cs) n.address).labels → Member l (rows_at w n).labels
+
+module _ (cs : List Checked) (w : MachineState) (written : IsWritten w.setup) (among : StandsNow cs w) (labels : LabelsStay cs w) (alone : NothingElseLeads cs w) where
+  pub one_step : (n next : Node) (i : InstanceId) (d : ℕ) (what : Attached) (left : ℕ) (before : List ServiceNo) → (h : LeadsInCommon cs n i d next what) → Member h.route (rows_at w n).routes
       → walk (forwarders w) d (suc left) (agent_at_node w n) before i ≡ visited (walk (forwarders w) d left (agent_at_node w next)) before (Some what)
-  one_step n next i d what left before h =
+  one_step n next i d what left before h there =
       let r : Route = h.route in
       let again : Forwarder → List ServiceNo → InstanceId → Outcome = walk (forwarders w) d left in
-      let there : Member r (rows_at w n).routes = (stays n h.stays).routes r h.is_route h.in_hand in
       let found : looked_up (rows_at w n) i d ≡ Some r.1 = leads (rows_at w n) i d r there h.instance h.holds (λ s in_s same hits. (alone n h.stays).alone r s d h.is_route h.in_hand in_s same h.holds hits) in
       let next_is : agent_at (forwarders w) r.1.next_hop ≡ Some (agent_at_node w next) = agent_is w written next (among next h.next_stays) r.1.next_hop h.hop in
-      let label_is : under (rows_at w next) r.1.label ≡ Some what = labelled (held_by_agent w next.name) r.1.label what ((stays next h.next_stays).labels (r.1.label, what) h.label) in
+      let label_is : under (rows_at w next) r.1.label ≡ Some what = labelled (held_by_agent w next.name) r.1.label what (labels next h.next_stays (r.1.label, what) h.label) in
       ap (followed again (forwarders w) before) found ∙ ap (handed again before r.1.label) next_is ∙ ap (visited (again (agent_at_node w next)) before) label_is
+
+module _ (cs : List Checked) (w : MachineState) (written : IsWritten w.setup) (among : StandsNow cs w) (stays : WhatIsCommonStays cs w) (alone : NothingElseLeads cs w) where
+  common_step : (n next : Node) (i : InstanceId) (d : ℕ) (what : Attached) (left : ℕ) (before : List ServiceNo) → LeadsInCommon cs n i d next what
+      → walk (forwarders w) d (suc left) (agent_at_node w n) before i ≡ visited (walk (forwarders w) d left (agent_at_node w next)) before (Some what)
+  common_step n next i d what left before h =
+      one_step cs w written among (λ n m. (stays n m).labels) alone n next i d what left before h ((stays n h.stays).routes h.route h.is_route h.in_hand)
 
   pub goes_the_common_way : GoesTheCommonWay cs w
   goes_the_common_way n i d services q way zero before few = absurd (omega arith)
   goes_the_common_way n i d [] q way (suc left) before few =
-      one_step n way.0 i d (Port q way.1) left before way.2 ∙ ap (Delivered q) (sym (append-nil before))
+      common_step n way.0 i d (Port q way.1) left before way.2 ∙ ap (Delivered q) (sym (append-nil before))
   goes_the_common_way n i d (s ∷ services) q way (suc left) before few =
-      one_step n way.0 i d (Circuit way.1 s) left before way.2
+      common_step n way.0 i d (Circuit way.1 s) left before way.2
       ∙ goes_the_common_way way.0 (circuit_instance_of (other_side_of way.1)) d services q way.3 left (before ++ s ∷ []) (omega arith)
       ∙ ap (Delivered q) (append_assoc before (s ∷ []) services)
 

@@ -23,7 +23,7 @@ goes_on agents d f from i (Says.Enter j) h = ap (walk agents d 64 f []) (sym h)
 goes_on agents d f from i (Says.Denied rule) h = absurd h
 goes_on agents d f from i Says.NoDestination h = absurd h
 
-by_one : (cs : List Checked) (w : MachineState) → GoesTheCommonWay cs w → VerdictsAreOfSome cs w → StartsWhereCommon cs w → DeliversByOne cs w
+pub by_one : (cs : List Checked) (w : MachineState) → GoesTheCommonWay cs w → VerdictsAreOfSome cs w → StartsWhereCommon cs w → DeliversByOne cs w
 unfolding forwarding
 by_one cs w goes verdicts starts n from to p q at h =
     let v = verdicts n p from.0 to h.heads in

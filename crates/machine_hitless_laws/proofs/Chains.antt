@@ -35,12 +35,12 @@ use Rattle.machine_laws.proofs.Up.{held_from}
 use Rattle.machine_laws.proofs.Views.{views}
 use Rattle.machine_hitless_laws.specs.Common.{common, standing}
 use Rattle.machine_hitless_laws.proofs.Here.{Here}
-use Rattle.machine_hitless_laws.proofs.OfSome.{AreOfSome}
+use Rattle.machine_hitless_laws.proofs.OfSome.{AreSomeTo}
 use Rattle.machine_hitless_laws.proofs.Paths.{feed_above, path_there, peer_there, publishes, serves, small, told_here}
-use Rattle.machine_hitless_laws.proofs.Says.{Mine, StaysTo, some_is}
+use Rattle.machine_hitless_laws.proofs.Says.{HoldsTo, Mine, some_is}
 use Rattle.machine_hitless_laws.proofs.Sides.{SameUse, circuit_there, ordered, same_circuit_at, same_hop_at, same_subnets, side_with}
 use Rattle.machine_hitless_laws.proofs.Static.{attached_standing, host_leads, imports_above}
-use Rattle.machine_hitless_laws.proofs.Stood.{AreStood, HostStood, circuit_stood}
+use Rattle.machine_hitless_laws.proofs.Stood.{HoldStood, HostStood, circuit_stood}
 
 -- a circuit that an agent publishes is published
 none_label : (l : LabelNo) → None ≡ Some l → ⊥
@@ -62,7 +62,7 @@ module _ (b : Checked) (ds : List Checked) (written : (c : Checked) → Member c
   abbrev M : Map
   M = common cs
 
-  module _ (r : ℕ) (x : Setup) (ss : List Session) (here : Here b ds written x (map nodes ss)) (stays : Each (StaysTo b ds written r) ss) (some : Each (AreOfSome cs) ss) (st : Each (AreStood cs b.topology.asn 4) ss) (n : Name) (s : Session) (among : Member s (sessions_of n ss)) (m : Mine b ds written r x n s) (control : s.near.role ≡ Controller) where
+  module _ (r : ℕ) (x : Setup) (ss : List Session) (here : Here b ds written x (map nodes ss)) (stays : Each (HoldsTo b ds written r) ss) (some : Each (AreSomeTo cs r) ss) (st : Each (HoldStood cs b.topology.asn r) ss) (n : Name) (s : Session) (among : Member s (sessions_of n ss)) (m : Mine b ds written r x n s) (control : s.near.role ≡ Controller) where
     abbrev h : Holdings
     h = control_holdings x n (views (sessions_of n ss))
 
@@ -142,7 +142,7 @@ module _ (b : Checked) (ds : List Checked) (written : (c : Checked) → Member c
       led_there d within rank c stays_c a attached at address i held_side =
           let by = some_is (publisher h (circuit_at there (suc d))) (published d c stays_c a attached at address i (three d r rank)) in
           let circuit = circuit_at there (suc d) in
-          let stood = circuit_stood b ds written b.topology.asn 4 x ss here here.asn some st n s among control two circuit by.0.0 by.0.1 by.1 in
+          let stood = circuit_stood b ds written b.topology.asn r x ss here here.asn some st n s among control (three d r rank) circuit by.0.0 by.0.1 by.1 in
           let instance : circuit_instance_of circuit ≡ a.instance = circuit_at-instance there (suc d) ∙ sym (same_hop_at side v q (suc d)) ∙ sym at.0 in
           let prefix : circuit_prefix circuit ≡ a.prefix = sym (at.1 ∙ ap circuit_prefix (same_circuit_at side v q (suc d))) in
           let host : HostStood cs stood.0 a.instance a.prefix by.0.1 = subst (λ (i : InstanceId). HostStood cs stood.0 i a.prefix by.0.1) instance (subst (λ (y : Block). HostStood cs stood.0 (circuit_instance_of circuit) y by.0.1) prefix stood.2) in
@@ -167,9 +167,6 @@ module _ (b : Checked) (ds : List Checked) (written : (c : Checked) → Member c
             ap (λ (i : InstanceId). target_of h.asn i ∷ []) (sym (same_hop_at side v q (suc d))),
           )
         where
-          two : 2 ≤ 4
-          two = omega arith
-
           three : (d r : ℕ) → 4 + d ≤ r → 3 ≤ r
           three d r h = omega (arith, h)
 

@@ -30,10 +30,10 @@ use Rattle.machine_laws.proofs.Views.{far, fars_are, heard, views}
 use Rattle.machine_hitless_laws.specs.Common.{common, standing}
 use Rattle.machine_hitless_laws.proofs.Above.{ListAbove, value_above}
 use Rattle.machine_hitless_laws.proofs.Here.{Here, here_laid, here_sound, lasts, site_lasts, standing_lasts, stands_there}
-use Rattle.machine_hitless_laws.proofs.Says.{Mine, Says, SaysBy, StaysTo, both_last, lasting, mine}
-use Rattle.machine_hitless_laws.proofs.OfSome.{AreOfSome}
+use Rattle.machine_hitless_laws.proofs.Says.{HoldsTo, Mine, Says, SaysBy, both_last, lasting, mine}
+use Rattle.machine_hitless_laws.proofs.OfSome.{AreSomeTo, all_some}
 use Rattle.machine_hitless_laws.proofs.Parts.{object_is}
-use Rattle.machine_hitless_laws.proofs.Stood.{AreStood}
+use Rattle.machine_hitless_laws.proofs.Stood.{HoldStood}
 
 module _ (b : Checked) (ds : List Checked) (written : (c : Checked) → Member c (b ∷ ds) → IsWritten (opening c)) where
   abbrev cs : List Checked
@@ -42,7 +42,7 @@ module _ (b : Checked) (ds : List Checked) (written : (c : Checked) → Member c
   abbrev M : Map
   M = common cs
 
-  module _ (r : ℕ) (x : Setup) (ss : List Session) (here : Here b ds written x (map nodes ss)) (lasting_stays : Each (StaysTo b ds written r) ss) (some : Each (AreOfSome cs) ss) (st : Each (AreStood cs b.topology.asn 4) ss) (n : Node) (stays : Member n (standing cs)) where
+  module _ (r : ℕ) (x : Setup) (ss : List Session) (here : Here b ds written x (map nodes ss)) (lasting_stays : Each (HoldsTo b ds written r) ss) (some : Each (AreSomeTo cs r) ss) (st : Each (HoldStood cs b.topology.asn r) ss) (n : Node) (stays : Member n (standing cs)) where
     abbrev own : List Session
     own = sessions_of n.name ss
 
@@ -112,5 +112,5 @@ module _ (b : Checked) (ds : List Checked) (written : (c : Checked) → Member c
         subst (λ (q : Role). SaysBy b ds written r q u.session.near.role u.session.far.name u.session.near.name (Low k)) (sym u.control)
         (subst (λ (q : Role). SaysBy b ds written r Controller q u.session.far.name u.session.near.name (Low k)) (sym (m.near_role ∙ ap (role_of x) m.name ∙ is_agent))
         (rank, (n, stays, sym m.name, w, h))) in
-        let v = value_above b ds u.session.near.held k w (ap as_object (object_of M k w there.0)) (get u.session.near.held (Low k)) refl (m.held u.lasts_on (Low k) says) (λ y e. m.some (Low k) y e) in
+        let v = value_above b ds u.session.near.held k w (ap as_object (object_of M k w there.0)) (get u.session.near.held (Low k)) refl (m.held u.lasts_on (Low k) says) (λ y e. all_some cs r rank (u.session.far.name, u.session.far.role) (u.session.near.name, u.session.near.role) u.session.near.held m.some (Low k) y e) in
         (v.0, subst (λ (os : List (LowKey × LowValue)). Member (k, v.0) os) (sym u.slice_is) (in_objects u.session.near.held k v.0 (object_is u.session.near.held k v.0 v.1)), v.2)

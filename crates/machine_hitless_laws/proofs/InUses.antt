@@ -59,7 +59,7 @@ module _ (c : Checked) (w : IsWritten (opening c)) where
       let there : (x : Block) → Member x u.right_subnets → _ = λ x i. ascending_to e.effect.right.subnets x (subst (λ (u : Use). Member x u.right_subnets) (sym e.is) i) in
       one_subnet c.topology c.config w.config v e.effect.right p q d e.used.has_right (there p i) (there q j) in_p in_q
 
-  one_of_sides : (s t : Side) → Member s (sides (low_in c)) → s.chain ≡ t.chain → (p q : Block) (d : ℕ) → Member p (subnets s) → Member q (subnets t) → contains p d ≡ true → contains q d ≡ true → p ≡ q
+  pub one_of_sides : (s t : Side) → Member s (sides (low_in c)) → s.chain ≡ t.chain → (p q : Block) (d : ℕ) → Member p (subnets s) → Member q (subnets t) → contains p d ≡ true → contains q d ≡ true → p ≡ q
   one_of_sides s t m same p q d i j in_p in_q = by s.is_right t.is_right i (subst (λ (u : Use). Member q (cond t.is_right u.right_subnets u.left_subnets)) (sym same) j)
     where
       used : Member s.chain (uses (low_in c))
@@ -72,7 +72,7 @@ module _ (c : Checked) (w : IsWritten (opening c)) where
       by false true i j = absurd (not_both s.chain used p q d i j in_p in_q)
 
 -- nothing attached that a place imports holds an address of a subnet that is led into it
-no_attachment_in : (feed : Map) → IsSound feed → (s : Side) (k : ℕ) → Member s (sides feed) → k < s.chain.services → (a : Attachment) → Member a (attachments feed) → Member a.instance (imports feed (hop_at s (suc k))) → (p : Block) → Member p (subnets s)
+pub no_attachment_in : (feed : Map) → IsSound feed → (s : Side) (k : ℕ) → Member s (sides feed) → k < s.chain.services → (a : Attachment) → Member a (attachments feed) → Member a.instance (imports feed (hop_at s (suc k))) → (p : Block) → Member p (subnets s)
     → (d : ℕ) → contains a.prefix d ≡ true → contains p d ≡ true → ⊥
 no_attachment_in feed sound s k m within a attached imported p subnet d in_a in_p =
     elim (imported_at feed s (suc k) sound.ordered m within a.instance imported) as (λ _. ⊥) [

@@ -49,16 +49,16 @@ use Rattle.machine_hitless_laws.specs.Common.{common, standing}
 use Rattle.machine_hitless_laws.proofs.Above.{attached_same, needed_above, slice_above}
 use Rattle.machine_hitless_laws.proofs.Here.{Here, here_laid, stands_among, stands_there}
 use Rattle.machine_hitless_laws.proofs.InUse.{slice_had}
-use Rattle.machine_hitless_laws.proofs.OfSome.{AreOfSome, each_from}
+use Rattle.machine_hitless_laws.proofs.OfSome.{AreSomeTo, each_from}
 use Rattle.machine_hitless_laws.proofs.Parts.{common_is_part, object_is}
 use Rattle.machine_hitless_laws.proofs.Chains.{led_there}
 use Rattle.machine_hitless_laws.proofs.Sides.{ordered, side_above}
 use Rattle.machine_laws.proofs.Numbers.{imports_itself}
 use Rattle.machine_hitless_laws.proofs.Paths.{peer_there, serves, small, feed_above, in_places, is_control, own_there, path_there, site}
-use Rattle.machine_hitless_laws.proofs.Says.{LedSaid, RowLed, HostSaid, IsInSlice, Mine, RowSaid, Says, SaysBy, StaysTo, lasting, mine, some_is}
+use Rattle.machine_hitless_laws.proofs.Says.{LedSaid, RowLed, HostSaid, IsInSlice, Mine, RowSaid, Says, SaysBy, HoldsTo, lasting, mine, some_is}
 use Rattle.machine_hitless_laws.proofs.Static.{attached_standing, imports_above}
 use Rattle.machine_hitless_laws.proofs.Stays.{HasKeys}
-use Rattle.machine_hitless_laws.proofs.Stood.{AreStood, attached_at}
+use Rattle.machine_hitless_laws.proofs.Stood.{HoldStood, attached_at}
 
 -- what an attachment publishes
 published_in : (k : LowKey) (w : LowValue) (a : Attachment) → as_attachment k w ≡ Some a → Member (publication_of a) (publication k w)
@@ -84,7 +84,7 @@ module _ (b : Checked) (ds : List Checked) (written : (c : Checked) → Member c
   abbrev M : Map
   M = common cs
 
-  module _ (r : ℕ) (x : Setup) (ss : List Session) (here : Here b ds written x (map nodes ss)) (stays : Each (StaysTo b ds written r) ss) (some : Each (AreOfSome cs) ss) (st : Each (AreStood cs b.topology.asn 4) ss) where
+  module _ (r : ℕ) (x : Setup) (ss : List Session) (here : Here b ds written x (map nodes ss)) (stays : Each (HoldsTo b ds written r) ss) (some : Each (AreSomeTo cs r) ss) (st : Each (HoldStood cs b.topology.asn r) ss) where
     abbrev places : List NodePair
     places = map nodes ss
 

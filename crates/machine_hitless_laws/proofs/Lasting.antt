@@ -29,15 +29,15 @@ use Rattle.machine_hitless_laws.proofs.Beginning.{IsAmong}
 use Rattle.machine_hitless_laws.proofs.Course.{KeepsInWindow}
 use Rattle.machine_hitless_laws.proofs.Here.{Here, IsAsked, here_edited, lasts, moves_off}
 use Rattle.machine_hitless_laws.proofs.Keys.{keys_wanted}
-use Rattle.machine_hitless_laws.proofs.Says.{Says, StaysTo, lasting, says_none, swap}
-use Rattle.machine_hitless_laws.proofs.Stood.{AreStood, kind, stood, wants_stood}
+use Rattle.machine_hitless_laws.proofs.Says.{HoldsTo, Says, StaysTo, holds_of, lasting, says_none, swap}
+use Rattle.machine_hitless_laws.proofs.Stood.{AreStood, HoldStood, kind, stood, stood_held, stood_weaker, wants_stood}
 use Rattle.machine_laws.specs.Settling.{FairMessages}
 use Rattle.std.specs.Prelude.{◌≤◌}
 use Rattle.std.proofs.Common.{arith}
-use Rattle.machine_hitless_laws.proofs.OfSome.{AreOfSome, IsStill, of_some, wants_of_some}
+use Rattle.machine_hitless_laws.proofs.OfSome.{AreOfSome, AreSomeTo, IsStill, of_some, some_weaker, wants_of_some}
 use Rattle.machine_hitless_laws.proofs.Stays.{AreKept, HasKeys, StaysAt, stays_arrived, stays_octets_arrived, stays_passed, stays_turned}
 
-none_of_both : (b c : Bool) → b ≡ false → (c && b) ≡ false
+pub none_of_both : (b c : Bool) → b ≡ false → (c && b) ≡ false
 none_of_both b true e = e
 none_of_both b false e = refl
 
@@ -50,44 +50,54 @@ module _ (b : Checked) (ds : List Checked) (written : (c : Checked) → Member c
   StaysToAll s = (r : ℕ) → StaysTo b ds written r s
 
   abbrev pub IsKept : Session → Type 0
-  IsKept s = StaysToAll s × (AreOfSome cs s × AreStood cs b.topology.asn 4 s)
+  IsKept s = StaysToAll s × (AreOfSome cs s × AreStood cs b.topology.asn 5 s)
 
   abbrev pub Tells : Session → Map → Type 0
-  Tells s m = ((r : ℕ) → lasting b ds written s ≡ true → HasKeys (Says b ds written r) (s.near.name, s.near.role) (s.far.name, s.far.role) m) × (FairMap (of_some cs) (s.near.name, s.near.role) (s.far.name, s.far.role) m × FairMap (stood cs b.topology.asn 4) (s.near.name, s.near.role) (s.far.name, s.far.role) m)
+  Tells s m = ((r : ℕ) → lasting b ds written s ≡ true → HasKeys (Says b ds written r) (s.near.name, s.near.role) (s.far.name, s.far.role) m) × (FairMap (of_some cs) (s.near.name, s.near.role) (s.far.name, s.far.role) m × FairMap (stood cs b.topology.asn 5) (s.near.name, s.near.role) (s.far.name, s.far.role) m)
 
-  abbrev lasts_of : NodePair → Bool
+  -- so both ends hold what is said, up to any rank
+  pub holds_kept : (r : ℕ) (ss : List Session) → Each IsKept ss → Each (HoldsTo b ds written r) ss
+  holds_kept r ss e = each_weaker IsKept (HoldsTo b ds written r) (λ s f. holds_of b ds written r s (f.0 r)) ss e
+
+  pub some_kept : (r : ℕ) (ss : List Session) → Each IsKept ss → Each (AreSomeTo cs r) ss
+  some_kept r ss e = each_weaker IsKept (AreSomeTo cs r) (λ s f. some_weaker cs r s f.1.0) ss e
+
+  pub stood_kept : (r : ℕ) (ss : List Session) → Each IsKept ss → Each (HoldStood cs b.topology.asn r) ss
+  stood_kept r ss e = each_weaker IsKept (HoldStood cs b.topology.asn r) (λ s f. stood_weaker cs b.topology.asn r s f.1.1) ss e
+
+  abbrev pub lasts_of : NodePair → Bool
   lasts_of p = lasts b ds written p.0.0 && lasts b ds written p.1.0
 
   abbrev At : ℕ → NodePair → Session → Type 0
   At r p s = StaysAt (Says b ds written r) p s
 
   -- what keeps the nodes of a session, and what is said on it
-  kept_where : (r : ℕ) (s t : Session) → nodes t ≡ nodes s → (At r (nodes s) s → At r (nodes s) t) → StaysTo b ds written r s → StaysTo b ds written r t
+  pub kept_where : (r : ℕ) (s t : Session) → nodes t ≡ nodes s → (At r (nodes s) s → At r (nodes s) t) → StaysTo b ds written r s → StaysTo b ds written r t
   kept_where r s t same h stays = λ l. subst (λ (p : NodePair). At r p t) (sym same) (h (stays (sym (ap lasts_of same) ∙ l)))
 
   fairly : (size : Name → Message → ℕ) → Keeps size (IsAmong cs) (AreOfSome cs) (λ s m. FairMap (of_some cs) (s.near.name, s.near.role) (s.far.name, s.far.role) m)
   fairly size = fair_keeps (of_some cs) size (IsAmong cs) (wants_of_some cs)
 
   -- no setup is asked for, since its wants are shown apart
-  truly : (size : Name → Message → ℕ) → Keeps size (λ x. ⊥) (AreStood cs b.topology.asn 4) (λ s m. FairMap (stood cs b.topology.asn 4) (s.near.name, s.near.role) (s.far.name, s.far.role) m)
-  truly size = fair_keeps (stood cs b.topology.asn 4) size (λ x. ⊥) (λ x ss n no_setup f. absurd no_setup)
+  truly : (size : Name → Message → ℕ) → Keeps size (λ x. ⊥) (AreStood cs b.topology.asn 5) (λ s m. FairMap (stood cs b.topology.asn 5) (s.near.name, s.near.role) (s.far.name, s.far.role) m)
+  truly size = fair_keeps (stood cs b.topology.asn 5) size (λ x. ⊥) (λ x ss n no_setup f. absurd no_setup)
 
-  turned_stays : (r : ℕ) (s : Session) → StaysTo b ds written r s → StaysTo b ds written r (turned s)
+  pub turned_stays : (r : ℕ) (s : Session) → StaysTo b ds written r s → StaysTo b ds written r (turned s)
   turned_stays r s h = λ l. stays_turned (Says b ds written r) (nodes s) s (h (swap (lasts b ds written s.far.name) (lasts b ds written s.near.name) l))
 
-  cleared : (r : ℕ) (s : Session) → StaysTo b ds written r s → StaysTo b ds written r (without_breaks s)
+  pub cleared : (r : ℕ) (s : Session) → StaysTo b ds written r s → StaysTo b ds written r (without_breaks s)
   cleared r s h = λ l.
       let f = h l in
       record { whole = f.whole; near_up = f.near_up; far_up = f.far_up; near_notice = f.near_notice; far_notice = f.far_notice; near_breaks = refl; far_breaks = refl; near_held = f.near_held; far_held = f.far_held; near_flight = f.near_flight; far_flight = f.far_flight }
 
-  up_is_off : (s : Session) → StaysTo b ds written 0 s → may_connect s ≡ true → lasts_of (nodes s) ≡ false
-  up_is_off s h may = by (lasts_of (nodes s)) refl
+  pub up_is_off : (r : ℕ) (s : Session) → StaysTo b ds written r s → may_connect s ≡ true → lasts_of (nodes s) ≡ false
+  up_is_off r s h may = by (lasts_of (nodes s)) refl
     where
       by : (c : Bool) → lasts_of (nodes s) ≡ c → c ≡ false
       by false e = refl
       by true e = absurd (true≢false (sym (and_parts s.is_down (not s.near.notice && not s.far.notice) may).0 ∙ (h e).whole))
 
-  opened_off : (r : ℕ) (s : Session) → lasts_of (nodes s) ≡ false → StaysTo b ds written r (opened s)
+  pub opened_off : (r : ℕ) (s : Session) → lasts_of (nodes s) ≡ false → StaysTo b ds written r (opened s)
   opened_off r s off = λ l. absurd (true≢false (sym l ∙ ap lasts_of (opened_nodes s) ∙ off))
 
   each_both : (F G : Session → Type 0) (ss : List Session) → Each F ss → Each G ss → Each (λ s. F s × G s) ss
@@ -109,7 +119,7 @@ module _ (b : Checked) (ds : List Checked) (written : (c : Checked) → Member c
   wants_to : (r : ℕ) (x : Setup) (ss : List Session) (n : Name) → Here b ds written x (map nodes ss) → Each IsKept ss → Each (Wants x ss n r) (sessions_of n ss)
   wants_to zero x ss n h e = each_any (Wants x ss n 0) (sessions_of n ss) (λ s l k says. absurd (says_none b ds written s.near.role s.far.role s.near.name s.far.name k says))
   wants_to (suc r) x ss n h e =
-      keys_wanted b ds written r x ss h (each_weaker IsKept (StaysTo b ds written r) (λ s f. f.0 r) ss e) (each_weaker IsKept (AreOfSome cs) (λ s f. f.1.0) ss e) (each_weaker IsKept (AreStood cs b.topology.asn 4) (λ s f. f.1.1) ss e) n
+      keys_wanted b ds written r x ss h (holds_kept r ss e) (some_kept r ss e) (stood_kept r ss e) n
 
   -- what holds up to a kind of key holds up to each lesser one
   weaker_map : (j : ℕ) (from to : Name × Role) (m : Map) → FairMap (stood cs b.topology.asn (suc j)) from to m → FairMap (stood cs b.topology.asn j) from to m
@@ -118,19 +128,18 @@ module _ (b : Checked) (ds : List Checked) (written : (c : Checked) → Member c
       le_suc : (a j : ℕ) → a ≤ j → a ≤ suc j
       le_suc a j h = omega (arith, h)
 
-  weaker_each : (x : Setup) (vs own : List Session) → Each (λ s. FairMap (stood cs b.topology.asn 5) (s.near.name, s.near.role) (s.far.name, s.far.role) (wanted x (views vs) (view s))) own → Each (λ s. FairMap (stood cs b.topology.asn 4) (s.near.name, s.near.role) (s.far.name, s.far.role) (wanted x (views vs) (view s))) own
+  weaker_each : (x : Setup) (vs own : List Session) → Each (λ s. FairMap (stood cs b.topology.asn 6) (s.near.name, s.near.role) (s.far.name, s.far.role) (wanted x (views vs) (view s))) own → Each (λ s. FairMap (stood cs b.topology.asn 5) (s.near.name, s.near.role) (s.far.name, s.far.role) (wanted x (views vs) (view s))) own
   weaker_each x vs [] f = tt
-  weaker_each x vs (s ∷ own) f = (weaker_map 4 (s.near.name, s.near.role) (s.far.name, s.far.role) (wanted x (views vs) (view s)) f.0, weaker_each x vs own f.1)
+  weaker_each x vs (s ∷ own) f = (weaker_map 5 (s.near.name, s.near.role) (s.far.name, s.far.role) (wanted x (views vs) (view s)) f.0, weaker_each x vs own f.1)
 
   wants : (size : Name → Message → ℕ) (x : Setup) (ss : List Session) (n : Name) → Here b ds written x (map nodes ss) → Each IsKept ss → Each (λ s. Tells s (wanted x (views_of n ss) (view s))) (sessions_of n ss)
   wants size x ss n h e =
       let some = each_weaker IsKept (AreOfSome cs) (λ s f. f.1.0) ss e in
-      let st = each_weaker IsKept (AreStood cs b.topology.asn 4) (λ s f. f.1.1) ss e in
-      each_both (λ s. (r : ℕ) → Wants x ss n r s) (λ s. FairMap (of_some cs) (s.near.name, s.near.role) (s.far.name, s.far.role) (wanted x (views_of n ss) (view s)) × FairMap (stood cs b.topology.asn 4) (s.near.name, s.near.role) (s.far.name, s.far.role) (wanted x (views_of n ss) (view s))) (sessions_of n ss)
+      each_both (λ s. (r : ℕ) → Wants x ss n r s) (λ s. FairMap (of_some cs) (s.near.name, s.near.role) (s.far.name, s.far.role) (wanted x (views_of n ss) (view s)) × FairMap (stood cs b.topology.asn 5) (s.near.name, s.near.role) (s.far.name, s.far.role) (wanted x (views_of n ss) (view s))) (sessions_of n ss)
       (all_ranks (Wants x ss n) (sessions_of n ss) (λ r. wants_to r x ss n h e))
-      (each_both (λ s. FairMap (of_some cs) (s.near.name, s.near.role) (s.far.name, s.far.role) (wanted x (views_of n ss) (view s))) (λ s. FairMap (stood cs b.topology.asn 4) (s.near.name, s.near.role) (s.far.name, s.far.role) (wanted x (views_of n ss) (view s))) (sessions_of n ss)
+      (each_both (λ s. FairMap (of_some cs) (s.near.name, s.near.role) (s.far.name, s.far.role) (wanted x (views_of n ss) (view s))) (λ s. FairMap (stood cs b.topology.asn 5) (s.near.name, s.near.role) (s.far.name, s.far.role) (wanted x (views_of n ss) (view s))) (sessions_of n ss)
       (wants_of_some cs x ss n h.among some)
-      (weaker_each x (sessions_of n ss) (sessions_of n ss) (wants_stood b ds written b.topology.asn 4 x ss h h.asn some st n)))
+      (weaker_each x (sessions_of n ss) (sessions_of n ss) (wants_stood b ds written b.topology.asn 5 x ss h h.asn (some_kept 5 ss e) (stood_kept 5 ss e) n)))
 
   pub keeps : (size : Name → Message → ℕ) → KeepsInWindow size (lasts b ds written) (Here b ds written) (IsAsked b ds written) IsKept Tells
   keeps size = record {
@@ -139,13 +148,13 @@ module _ (b : Checked) (ds : List Checked) (written : (c : Checked) → Member c
       (λ r l. absurd (true≢false (sym l ∙ none_of_both (lasts b ds written n.name) (lasts b ds written c.name) off))),
       (
         record { near_held = empty_values key_cmp (of_some cs (n.name, Agent) (c.name, Controller)); far_held = empty_values key_cmp (of_some cs (c.name, Controller) (n.name, Agent)); near_flight = tt; far_flight = tt },
-        record { near_held = empty_values key_cmp (stood cs b.topology.asn 4 (n.name, Agent) (c.name, Controller)); far_held = empty_values key_cmp (stood cs b.topology.asn 4 (c.name, Controller) (n.name, Agent)); near_flight = tt; far_flight = tt },
+        record { near_held = empty_values key_cmp (stood cs b.topology.asn 5 (n.name, Agent) (c.name, Controller)); far_held = empty_values key_cmp (stood cs b.topology.asn 5 (c.name, Controller) (n.name, Agent)); near_flight = tt; far_flight = tt },
       ),
     );
     arrives = λ s f. ((λ r. kept_where r s (arrived s) (arrived_nodes s) (stays_arrived (Says b ds written r) (nodes s) s) (f.0 r)), ((fairly size).arrives s f.1.0, (truly size).arrives s f.1.1));
     octets = λ n s f. ((λ r. kept_where r s (octets_arrived size n s) (octets_nodes size n s) (stays_octets_arrived (Says b ds written r) size (nodes s) n s) (f.0 r)), ((fairly size).octets n s f.1.0, (truly size).octets n s f.1.1));
     passes = λ m s h f. ((λ r. λ l. kept_where r s (passed m s) (passed_nodes m s) (stays_passed (Says b ds written r) (nodes s) m s (h.0 r (sym (ap lasts_of (passed_nodes m s)) ∙ l))) (f.0 r) l), ((fairly size).passes m s h.1.0 f.1.0, (truly size).passes m s h.1.1 f.1.1));
-    off = λ s f may. up_is_off s (f.0 0) may;
+    off = λ s f may. up_is_off 0 s (f.0 0) may;
     opens = λ s off f. ((λ r. opened_off r s off), ((fairly size).opens s f.1.0, (truly size).opens s f.1.1));
     clears = λ s f. ((λ r. cleared r s (f.0 r)), ((fairly size).breaks [] [] s f.1.0, (truly size).breaks [] [] s f.1.1));
     wants = λ x ss n h e. wants size x ss n h e;
@@ -225,7 +234,7 @@ module _ (b : Checked) (ds : List Checked) (written : (c : Checked) → Member c
         each_weaker (λ s. IsQuiet s × (FarStood (suc j) s × FarStood (suc j) (turned s))) (AreStood cs b.topology.asn (suc j))
         (λ s q. stood_begun (suc j) s q.0 q.1.1 q.1.0) w.sessions
         (each_and IsQuiet (λ s. FarStood (suc j) s × FarStood (suc j) (turned s)) w.sessions quiet
-        (own_to_all (FarStood (suc j)) w.sessions apart (λ n. far_stood (suc j) (sessions_of n w.sessions) (sessions_of n w.sessions) (rest n) (wants_stood b ds written b.topology.asn j w.setup w.sessions here here.asn some (begins_stood j) n))))
+        (own_to_all (FarStood (suc j)) w.sessions apart (λ n. far_stood (suc j) (sessions_of n w.sessions) (sessions_of n w.sessions) (rest n) (wants_stood b ds written b.topology.asn j w.setup w.sessions here here.asn (each_weaker (AreOfSome cs) (AreSomeTo cs j) (λ s f. some_weaker cs j s f) w.sessions some) (each_weaker (AreStood cs b.topology.asn j) (HoldStood cs b.topology.asn j) (λ s f. stood_held cs b.topology.asn j s f) w.sessions (begins_stood j)) n))))
 
     abbrev FarHas : ℕ → Session → Type 0
     FarHas r s = lasting b ds written s ≡ true → HasKeys (Says b ds written r) (s.near.name, s.near.role) (s.far.name, s.far.role) s.far.held
@@ -247,7 +256,7 @@ module _ (b : Checked) (ds : List Checked) (written : (c : Checked) → Member c
         each_weaker (λ s. IsQuiet s × (FarHas (suc r) s × FarHas (suc r) (turned s))) (StaysTo b ds written (suc r))
         (λ s q. begun (suc r) s q.0 (turned_far (suc r) s q.1.1) q.1.0) w.sessions
         (each_and IsQuiet (λ s. FarHas (suc r) s × FarHas (suc r) (turned s)) w.sessions quiet
-        (own_to_all (FarHas (suc r)) w.sessions apart (λ n. far_has (suc r) (sessions_of n w.sessions) (sessions_of n w.sessions) (rest n) (keys_wanted b ds written r w.setup w.sessions here (begins_to r) some (begins_stood 4) n))))
+        (own_to_all (FarHas (suc r)) w.sessions apart (λ n. far_has (suc r) (sessions_of n w.sessions) (sessions_of n w.sessions) (rest n) (keys_wanted b ds written r w.setup w.sessions here (each_weaker (StaysTo b ds written r) (HoldsTo b ds written r) (λ s f. holds_of b ds written r s f) w.sessions (begins_to r)) (each_weaker (AreOfSome cs) (AreSomeTo cs r) (λ s f. some_weaker cs r s f) w.sessions some) (each_weaker (AreStood cs b.topology.asn 5) (HoldStood cs b.topology.asn r) (λ s f. stood_weaker cs b.topology.asn r s f) w.sessions (begins_stood 5)) n))))
 
     pub begins_kept : Each IsKept w.sessions
-    begins_kept = each_both StaysToAll (λ s. AreOfSome cs s × AreStood cs b.topology.asn 4 s) w.sessions (all_ranks (StaysTo b ds written) w.sessions begins_to) (each_both (AreOfSome cs) (AreStood cs b.topology.asn 4) w.sessions some (begins_stood 4))
+    begins_kept = each_both StaysToAll (λ s. AreOfSome cs s × AreStood cs b.topology.asn 5 s) w.sessions (all_ranks (StaysTo b ds written) w.sessions begins_to) (each_both (AreOfSome cs) (AreStood cs b.topology.asn 5) w.sessions some (begins_stood 5))

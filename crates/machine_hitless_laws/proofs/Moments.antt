@@ -82,7 +82,7 @@ module _ (size : Name → Message → ℕ) where
   led_written w (Trace p) ok c m = absurd m
   led_written w (Break a b n) ok c m = absurd m
 
-  all_written : (w : MachineState) (es : List MachineEvent) → EditsAreValid size IsOfForm w es → IsWritten w.setup → (c : Checked) → Member c (led_to size w es) → IsWritten (opening c)
+  pub all_written : (w : MachineState) (es : List MachineEvent) → EditsAreValid size IsOfForm w es → IsWritten w.setup → (c : Checked) → Member c (led_to size w es) → IsWritten (opening c)
   all_written w [] ok h c m = absurd m
   all_written w (e ∷ es) ok h c m =
       elim (in_either c (led_to_by w e) (led_to size (next size w e) es) m) as (λ _. IsWritten (opening c)) [
@@ -104,7 +104,7 @@ edit_both P Q w (Show n) p q = tt
 edit_both P Q w (Trace p) q r = tt
 edit_both P Q w (Break a b n) p q = tt
 
-edits_both : (size : Name → Message → ℕ) (P Q : Setup → Type 0) (w : MachineState) (es : List MachineEvent) → EditsAreValid size P w es → EditsAreValid size Q w es → EditsAreValid size (λ y. P y × Q y) w es
+pub edits_both : (size : Name → Message → ℕ) (P Q : Setup → Type 0) (w : MachineState) (es : List MachineEvent) → EditsAreValid size P w es → EditsAreValid size Q w es → EditsAreValid size (λ y. P y × Q y) w es
 edits_both size P Q w [] p q = tt
 edits_both size P Q w (e ∷ es) p q = (edit_both P Q w e p.0 q.0, edits_both size P Q (next size w e) es p.1 q.1)
 
@@ -126,7 +126,7 @@ numbers_after size w (Show n) ok l h = subst (λ (x : Setup). LaidOut x × AllFi
 numbers_after size w (Trace p) ok l h = subst (λ (x : Setup). LaidOut x × AllFit x) (sym (setup_stays size w (Trace p) (λ d e. cc))) (l, h)
 numbers_after size w (Break a b n) ok l h = subst (λ (x : Setup). LaidOut x × AllFit x) (sym (setup_stays size w (Break a b n) (λ d e. cc))) (l, h)
 
-all_fit : (size : Name → Message → ℕ) (w : MachineState) (es : List MachineEvent) → EditsAreValid size LaidOut w es → LaidOut w.setup → AllFit w.setup → AllFit (after size w es).setup
+pub all_fit : (size : Name → Message → ℕ) (w : MachineState) (es : List MachineEvent) → EditsAreValid size LaidOut w es → LaidOut w.setup → AllFit w.setup → AllFit (after size w es).setup
 all_fit size w [] ok l h = h
 all_fit size w (e ∷ es) ok l h = let q = numbers_after size w e ok.0 l h in all_fit size (next size w e) es ok.1 q.0 q.1
 

@@ -1,9 +1,9 @@
 -- Each low-level object that is told is of some configuration of the window so far.
 use Rattle.std.specs.FinMap.{empty, entries, get}
 use Rattle.std.specs.List.{flat_map}
-use Rattle.std.specs.Prelude.{Bool, List, length, ◌&&◌, ◌==◌, cond, false, map, true, [], ◌++◌, ◌∷◌, ◌≡◌}
+use Rattle.std.specs.Prelude.{Bool, List, length, ◌&&◌, ◌==◌, ◌≤◌, ℕ, suc, cond, false, map, true, [], ◌++◌, ◌∷◌, ◌≡◌}
 use Rattle.std.specs.declared.option.Option.TheVariants.{Some}
-use Rattle.std.proofs.Common.{inl, inr, refl, subst, sym, ◌∙◌}
+use Rattle.std.proofs.Common.{arith, inl, inr, refl, subst, sym, ◌∙◌}
 use Rattle.ov_types.specs.declared.objects.LowKey.{LowKey}
 use Rattle.ov_types.specs.declared.objects.LowValue.{LowValue}
 use Rattle.run_ties.specs.ConfigCheck.Checked.{Checked}
@@ -22,14 +22,14 @@ use Rattle.node_laws.proofs.NodeModel.Objects.{object_of}
 use Rattle.node_laws.proofs.NodeModel.Orders.{key_exact, key_total}
 use Rattle.node_laws.proofs.NodeModel.Wanted.{row_of_path}
 use Rattle.machine_model.specs.Setup.{Setup, checked, low as low_map}
-use Rattle.machine_model.specs.Network.{MachineState, View, agent_holdings, control_holdings, told_on, view, wanted, wanted_from, sessions_of, first_held, same_role, with_role}
+use Rattle.machine_model.specs.Network.{MachineState, View, agent_holdings, control_holdings, told_on, view, views_of, wanted, wanted_from, sessions_of, first_held, same_role, with_role}
 use Rattle.machine_model.specs.Moments.{Each, IsAtRest, IsAtRestWith, nodes}
 use Rattle.machine_model.specs.Session.{Agent, Configuration, Controller, Message, Role, Session, is_up, is_up_phase, turned, waiting}
 use Rattle.machine_model.specs.Setup.{Name, agents_of}
 use Rattle.machine_model.proofs.Feed.{entries-low}
 use Rattle.machine_model.proofs.OvSync.KeyedLaws.{empty_values}
 use Rattle.machine_model.proofs.Twins.{NoTwins, all_to_own, each_and, each_weaker, own_to_all}
-use Rattle.machine_laws.specs.Settling.{Fair, FairMessages, WantsFair}
+use Rattle.machine_laws.specs.Settling.{Fair, FairMap, FairMessages, WantsFair}
 use Rattle.machine_model.specs.Steps.{is_rested, is_settled}
 use Rattle.machine_model.proofs.AtRest.{no_messages}
 use Rattle.node_laws.specs.NodeModel.Step.{Phase, Idle, Opened, Confirmed, Up}
@@ -83,6 +83,10 @@ all_still (s ∷ ss) e =
 pub each_from : (F W : Session → Type 0) (ss : List Session) → Each F ss → ((s : Session) → Member s ss → F s → W s) → Each W ss
 each_from F W [] f h = tt
 each_from F W (s ∷ ss) f h = (h s (inl refl) f.0, each_from F W ss f.1 (λ t m g. h t (inr m) g))
+
+-- what both ends hold is fair
+abbrev pub HeldFair : (Name × Role → Name × Role → Key → Value → Type 0) → Session → Type 0
+HeldFair fair s = FairMap fair (s.far.name, s.far.role) (s.near.name, s.near.role) s.near.held × FairMap fair (s.near.name, s.near.role) (s.far.name, s.far.role) s.far.held
 
 module _ (cs : List Checked) where
   abbrev pub ObjectOfSome : LowKey → LowValue → Type 0
@@ -193,6 +197,63 @@ module _ (cs : List Checked) where
       let own = sessions_of n ss in
       let held = own_of_some ss n f in
       each_wanted x (views own) own (λ v. wanted_of_some x own v among (each_weaker (λ s. AllOfSome s.near.held) FeedOfSome (λ s h _. h) own held))
+
+  -- ---- the same up to a rank: of what the configuration node tells from rank 1 on, and of what others tell from rank 2 on
+  abbrev pub source_rank : Role → ℕ
+  source_rank Configuration = 1
+  source_rank Controller = 2
+  source_rank Agent = 2
+
+  abbrev pub some_to : ℕ → Name × Role → Name × Role → Key → Value → Type 0
+  some_to r from to k v = source_rank from.1 ≤ r → EntryOfSome k v
+
+  abbrev pub AreSomeTo : ℕ → Session → Type 0
+  AreSomeTo r = HeldFair (some_to r)
+
+  ranked : (p : Role) (r : ℕ) → 2 ≤ r → source_rank p ≤ r
+  ranked Configuration r h = omega (arith, h)
+  ranked Controller r h = h
+  ranked Agent r h = h
+
+  pub all_some : (r : ℕ) → 2 ≤ r → (from to : Name × Role) (m : Map) → FairMap (some_to r) from to m → AllOfSome m
+  all_some r h from to m f k v e = f k v e (ranked from.1 r h)
+
+  pub fed_some : (r : ℕ) → 1 ≤ r → (from to : Name × Role) (m : Map) → from.1 ≡ Configuration → FairMap (some_to r) from to m → AllOfSome m
+  fed_some r h from to m is f k v e = f k v e (subst (λ (p : Role). source_rank p ≤ r) (sym is) h)
+
+  pub some_weaker : (r : ℕ) (s : Session) → AreOfSome s → AreSomeTo r s
+  some_weaker r s f = ((λ k v e _. f.near_held k v e), (λ k v e _. f.far_held k v e))
+
+  -- what is wanted is so up to the next rank
+  abbrev FedTo : ℕ → Session → Type 0
+  FedTo r s = FairMap (some_to r) (s.far.name, s.far.role) (s.near.name, s.near.role) s.near.held
+
+  wanted_some_to : (r : ℕ) (x : Setup) (own : List Session) (v : View) → Member (checked x) cs → Each (FedTo r) own → source_rank v.role ≤ suc r → AllOfSome (wanted x (views own) v)
+  unfolding wanted
+  wanted_some_to r x own v among fed = go v.role v.other_role
+    where
+      lower : (r : ℕ) → 2 ≤ suc r → 1 ≤ r
+      lower r h = omega (arith, h)
+
+      go : (p q : Role) → source_rank p ≤ suc r → AllOfSome (wanted_from x (views own) (record v { other_role = q }) p)
+      go Configuration q h = low_of_some x among
+      go Agent q h = told_of_some (slice_in_use (agent_holdings x v.name (views own)))
+      go Controller Configuration h = none_of_some
+      go Controller Controller h = peers_of_some (control_holdings x v.name (views own))
+      go Controller Agent h =
+          agent_of_some (control_holdings x v.name (views own))
+          (feed_of_some own (each_weaker (FedTo r) FeedOfSome (λ s f is. fed_some r (lower r h) (s.far.name, s.far.role) (s.near.name, s.near.role) s.near.held is f) own fed))
+          (told_on (agents_of x v.name) v)
+
+  pub wants_some_to : (r : ℕ) (x : Setup) (ss : List Session) (n : Name) → Member (checked x) cs → Each (AreSomeTo r) ss → Each (λ s. FairMap (some_to (suc r)) (s.near.name, s.near.role) (s.far.name, s.far.role) (wanted x (views_of n ss) (view s))) (sessions_of n ss)
+  wants_some_to r x ss n among f =
+      let own = sessions_of n ss in
+      let fed = all_to_own (FedTo r) n ss f in
+      each_anyhow own (λ s k v e rank. wanted_some_to r x own (view s) among fed rank k v e)
+    where
+      each_anyhow : {F : Session → Type 0} (ts : List Session) → ((s : Session) → F s) → Each F ts
+      each_anyhow [] h = tt
+      each_anyhow (t ∷ ts) h = (h t, each_anyhow ts h)
 
   -- ---- at rest
   module _ (w : MachineState) (apart : NoTwins (map nodes w.sessions)) (rest : IsAtRest w) (settled : is_settled w ≡ true) (among : Member (checked w.setup) cs) where

@@ -1,5 +1,5 @@
 -- The paths that a control node has of what is common: its own, and those that its peers tell.
-use Rattle.std.specs.Prelude.{◌≡◌, ◌≤◌, ◌++◌, ◌+◌, ◌⊎◌, ℕ, List, [], ◌∷◌, map, length, true, false, cond}
+use Rattle.std.specs.Prelude.{◌≡◌, ◌≤◌, ◌++◌, ◌+◌, ◌⊎◌, ℕ, suc, List, [], ◌∷◌, map, length, true, false, cond}
 use Rattle.std.specs.FinMap.{entries, get}
 use Rattle.std.specs.List.{enumerate_from, filter, filter_map}
 use Rattle.std.specs.declared.option.Option.{Option}
@@ -47,12 +47,12 @@ use Rattle.machine_hitless_laws.specs.Common.{common, standing}
 use Rattle.machine_hitless_laws.proofs.Above.{held_above}
 use Rattle.machine_hitless_laws.proofs.Here.{Here, config_lasts, here_laid, here_sound, lasts, site_lasts, standing_lasts, stands_among, stands_there}
 use Rattle.machine_hitless_laws.proofs.Homes.{known_above}
-use Rattle.machine_hitless_laws.proofs.OfSome.{AreOfSome, role_is}
+use Rattle.machine_hitless_laws.proofs.OfSome.{AreSomeTo, fed_some, role_is}
 use Rattle.machine_hitless_laws.proofs.Seats.{enumerated}
 use Rattle.machine_hitless_laws.proofs.Parts.{IsAbove}
-use Rattle.machine_hitless_laws.proofs.Says.{Mine, SaysBy, StaysTo, both_last, config_is, feed_is, lasting, mine, some_is}
+use Rattle.machine_hitless_laws.proofs.Says.{HoldsTo, Mine, SaysBy, both_last, config_is, feed_is, lasting, mine, some_is}
 use Rattle.machine_hitless_laws.proofs.Static.{attached_in, attached_standing}
-use Rattle.machine_hitless_laws.proofs.Stood.{AreStood, EntryStood}
+use Rattle.machine_hitless_laws.proofs.Stood.{EntryStood, HoldStood}
 
 -- the map that a peer told is among those that are held of peers
 peer_among : (own : List Session) (t : Session) → Member t own → t.far.role ≡ Controller → Member t.near.held (peer_maps own)
@@ -84,7 +84,7 @@ module _ (b : Checked) (ds : List Checked) (written : (c : Checked) → Member c
   abbrev asn : ℕ
   asn = b.topology.asn
 
-  module _ (r : ℕ) (x : Setup) (ss : List Session) (here : Here b ds written x (map nodes ss)) (stays : Each (StaysTo b ds written r) ss) (some : Each (AreOfSome cs) ss) (st : Each (AreStood cs asn 4) ss) (n : Name) where
+  module _ (r : ℕ) (x : Setup) (ss : List Session) (here : Here b ds written x (map nodes ss)) (stays : Each (HoldsTo b ds written r) ss) (some : Each (AreSomeTo cs r) ss) (st : Each (HoldStood cs asn r) ss) (n : Name) where
     abbrev own : List Session
     own = sessions_of n ss
 
@@ -123,7 +123,7 @@ module _ (b : Checked) (ds : List Checked) (written : (c : Checked) → Member c
           let f = laid.fed n (far s) in_places is_control in
           feed_is (IsAbove M) own (each_weaker (Mine b ds written r x n) (λ t. t.far.role ≡ Configuration → IsAbove M t.near.held) (λ t q e.
           let l = lasting_with t q (ap (lasts b ds written) (config_is x t.far.name (sym q.far_role ∙ e)) ∙ config_lasts b ds written) in
-          held_above b ds t.near.held (λ k is. q.held l (Low k) (subst (λ (p : Role). SaysBy b ds written r p t.near.role t.far.name t.near.name (Low k)) (sym e) (rank, is))) q.some) own mines)
+          held_above b ds t.near.held (λ k is. q.held l (Low k) (subst (λ (p : Role). SaysBy b ds written r p t.near.role t.far.name t.near.name (Low k)) (sym e) (rank, is))) (fed_some cs r rank (t.far.name, t.far.role) (t.near.name, t.near.role) t.near.held e q.some)) own mines)
           f.0 (subst (Member (f.0, Configuration)) (sym (fars_are n ss)) f.1)
 
       -- ---- what the agent of a node that stands told here
@@ -166,12 +166,9 @@ module _ (b : Checked) (ds : List Checked) (written : (c : Checked) → Member c
           record { rank = rank; node = c; stays = stays_c; name = sym t.named; to = to; attached = attached; at = at; instance = refl; prefix_is = refl } in
           let there = q.held l k (subst (λ (p : Role). SaysBy b ds written r p t.session.near.role t.session.far.name t.session.near.name k) (sym t.is_agent) says) in
           let v = some_is (get t.session.near.held k) there in
-          let w = as_published v.0 (q.told k v.0 v.1 two) in
+          let w = as_published v.0 (q.told k v.0 v.1 rank) in
           (w.0, ap (λ (m : Map). get m k) t.map_is ∙ v.1 ∙ ap Some w.1)
         where
-          two : 2 ≤ 4
-          two = omega arith
-
           as_published : (v : Value) → EntryStood cs asn (t.session.far.name, t.session.far.role) (t.session.near.name, t.session.near.role) (Publish to.instance to.prefix) v → (l : LabelNo) × (v ≡ Label l)
           as_published (Label l) e = (l, refl)
           as_published (Object o) e = absurd e
@@ -211,10 +208,14 @@ module _ (b : Checked) (ds : List Checked) (written : (c : Checked) → Member c
           let near_is : t.near.role ≡ Controller = q.near_role ∙ ap (role_of x) q.name ∙ is_control in
           let there = q.held l (Vpn k) (subst (λ (p : Role). SaysBy b ds written r p t.near.role t.far.name t.near.name (Vpn k)) (sym e) (subst (λ (p : Role). SaysBy b ds written r Controller p t.far.name t.near.name (Vpn k)) (sym near_is) says)) in
           let v = some_is (get t.near.held (Vpn k)) there in
-          as_route v.0 v.1 (q.told (Vpn k) v.0 v.1 three)
+          as_route v.0 v.1 (q.told (Vpn k) v.0 v.1 (four says))
         where
-          three : 3 ≤ 4
-          three = omega arith
+          first : (r d : ℕ) → 4 + suc d ≤ r → 4 ≤ r
+          first r d h = omega (arith, h)
+
+          four : SaysBy b ds written r Controller Controller t.far.name t.near.name (Vpn k) → 4 ≤ r
+          four (inl h) = h.rank
+          four (inr h) = first r h.depth h.rank
 
           as_route : (v : Value) → get t.near.held (Vpn k) ≡ Some v → EntryStood cs asn (t.far.name, t.far.role) (t.near.name, t.near.role) (Vpn k) v → (p : Path) × Member p (peer_paths h) × (p.prefix ≡ k.prefix) × (p.rd ≡ k.rd) × (p.targets ≡ target_of asn inst ∷ [])
           as_route (Object o) g e = absurd e

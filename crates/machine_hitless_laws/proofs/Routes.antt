@@ -20,6 +20,7 @@ use Rattle.node_laws.specs.NodeModel.Agent.{as_hop, first_some, needed_by, slice
 use Rattle.node_laws.specs.NodeModel.Keys.{Row}
 use Rattle.node_laws.specs.NodeModel.Maps.{Map}
 use Rattle.node_laws.specs.NodeModel.Members.{Member}
+use Rattle.node_laws.specs.NodeModel.Reaching.{Side, sides}
 use Rattle.node_laws.specs.NodeModel.Uses.{is_hop}
 use Rattle.node_laws.specs.NodeModel.Values.{Entry, Label, Object, Route, Value}
 use Rattle.node_laws.specs.NodeModel.Wants.{slice}
@@ -32,13 +33,12 @@ use Rattle.machine_model.specs.Moments.{Each, nodes}
 use Rattle.machine_model.specs.Network.{agent_holdings, sessions_of, start}
 use Rattle.machine_model.specs.Session.{Agent, Controller, Role, Session}
 use Rattle.machine_model.specs.Setup.{Name, Setup, opening}
-use Rattle.machine_model.proofs.Twins.{each_weaker}
 use Rattle.machine_laws.specs.Compiled.{Attachment, agent_rows, compiled_table, row_of, rows_in, table_rows}
 use Rattle.machine_laws.specs.Goal.{role_of}
 use Rattle.machine_laws.specs.Headline.{IsWritten}
 use Rattle.machine_laws.proofs.TableRows.{HostRow, SubnetRow, row_kind}
 use Rattle.machine_laws.proofs.Views.{views}
-use Rattle.machine_hitless_laws.specs.Common.{ChangesHands, WhatIsCommonStays, common, standing}
+use Rattle.machine_hitless_laws.specs.Common.{ChangesHands, HasCommonRows, WhatIsCommonStays, common, standing}
 use Rattle.machine_hitless_laws.specs.Windows.{AtMomentsOfWindows}
 use Rattle.machine_hitless_laws.proofs.Above.{needed_above}
 use Rattle.machine_hitless_laws.proofs.Here.{Here}
@@ -46,13 +46,13 @@ use Rattle.machine_hitless_laws.proofs.HopRows.{hop_host_row, subnet_row}
 use Rattle.machine_hitless_laws.proofs.Sides.{ordered}
 use Rattle.node_laws.proofs.NodeModel.Objects.{side_use}
 use Rattle.machine_hitless_laws.proofs.InUse.{in_use, is_agent, slice_had}
-use Rattle.machine_hitless_laws.proofs.Lasting.{IsKept}
+use Rattle.machine_hitless_laws.proofs.Lasting.{holds_kept, some_kept, stood_kept}
 use Rattle.machine_hitless_laws.proofs.Moments.{all_are_written, every_moment, first_one, others}
-use Rattle.machine_hitless_laws.proofs.OfSome.{AreOfSome}
+use Rattle.machine_hitless_laws.proofs.OfSome.{AreSomeTo}
 use Rattle.machine_hitless_laws.proofs.Rows.{labels_above, lists_above}
-use Rattle.machine_hitless_laws.proofs.Says.{Says, SaysBy, StaysTo, some_is}
+use Rattle.machine_hitless_laws.proofs.Says.{HoldsTo, Says, SaysBy, some_is}
 use Rattle.machine_hitless_laws.proofs.Static.{LeadsTo, network_row}
-use Rattle.machine_hitless_laws.proofs.Stood.{AreStood, EntryStood, RowStood}
+use Rattle.machine_hitless_laws.proofs.Stood.{HoldStood, EntryStood, RowStood}
 
 abbrev pub hop_of : TableRow → RouteEntry
 hop_of r = record { next_hop = r.next_hop; label = r.label }
@@ -90,15 +90,12 @@ module _ (b : Checked) (ds : List Checked) (written : (c : Checked) → Member c
   abbrev M : Map
   M = common cs
 
-  module _ (r : ℕ) (x : Setup) (ss : List Session) (here : Here b ds written x (map nodes ss)) (lasting_stays : Each (StaysTo b ds written r) ss) (some : Each (AreOfSome cs) ss) (st : Each (AreStood cs b.topology.asn 4) ss) (n : Node) (stays : Member n (standing cs)) where
+  module _ (r : ℕ) (x : Setup) (ss : List Session) (here : Here b ds written x (map nodes ss)) (lasting_stays : Each (HoldsTo b ds written r) ss) (some : Each (AreSomeTo cs r) ss) (st : Each (HoldStood cs b.topology.asn r) ss) (n : Node) (stays : Member n (standing cs)) where
     abbrev held : agent.Holdings
     held = agent_holdings x n.name (views (sessions_of n.name ss))
 
-    four : 4 ≤ 4
-    four = omega arith
-
     -- a route that is said, and that leads nowhere else, is there
-    pub route_there : 2 ≤ r → (i : InstanceId) (prefix : Block) (hop : RouteEntry) → Member i (needed_by (slice M n.address)) → SaysBy b ds written r Controller Agent (in_use b ds written r x ss here lasting_stays some st n stays).session.far.name n.name (Row i prefix)
+    pub route_there : 5 ≤ r → (i : InstanceId) (prefix : Block) (hop : RouteEntry) → Member i (needed_by (slice M n.address)) → SaysBy b ds written r Controller Agent (in_use b ds written r x ss here lasting_stays some st n stays).session.far.name n.name (Row i prefix)
         → ((h : RouteEntry) → RowStood cs i prefix h.next_hop h.label → h ≡ hop) → Member (route_at i prefix hop) (agent.routes held)
     route_there rank i prefix hop needed says leads =
         let u = in_use b ds written r x ss here lasting_stays some st n stays in
@@ -109,14 +106,17 @@ module _ (b : Checked) (ds : List Checked) (written : (c : Checked) → Member c
         (subst (λ (q : Role). SaysBy b ds written r Controller q s.far.name s.near.name (Row i prefix)) (sym near_is)
         (subst (λ (m : Name). SaysBy b ds written r Controller Agent s.far.name m (Row i prefix)) (sym u.to.name) says)) in
         let v = some_is (get s.near.held (Row i prefix)) (u.to.held u.lasts_on (Row i prefix) said) in
-        let e : get s.near.held (Row i prefix) ≡ Some (Entry hop) = v.1 ∙ ap Some (as_entry s v.0 (u.to.told (Row i prefix) v.0 v.1 four)) in
+        let e : get s.near.held (Row i prefix) ≡ Some (Entry hop) = v.1 ∙ ap Some (as_entry s v.0 (u.to.told (Row i prefix) v.0 v.1 rank)) in
         let from : agent.route_from held i prefix ≡ Some hop =
         ap (λ (h : agent.Holdings). agent.route_from h i prefix) u.holdings_are
         ∙ ap (λ (o : Option Value). first_some (as_hop o) (agent.route_from u.rest i prefix)) e in
-        let there = needed_above (slice M n.address) (slice_in_use held) (slice_had b ds written r x ss here lasting_stays some st n stays rank) i needed in
+        let there = needed_above (slice M n.address) (slice_in_use held) (slice_had b ds written r x ss here lasting_stays some st n stays (two r rank)) i needed in
         let is_needed : agent.is_needed held i ≡ true = any_in (λ (n : InstanceId). n.0 == i.0) i (needed_by (slice_in_use held)) there (eq-eqb i.0 i.0 refl) in
         (route_is held i prefix hop).1 (is_needed, from)
       where
+        two : (r : ℕ) → 5 ≤ r → 2 ≤ r
+        two r h = omega (arith, h)
+
         as_entry : (s : Session) (v : Value) → EntryStood cs b.topology.asn (s.far.name, s.far.role) (s.near.name, s.near.role) (Row i prefix) v → v ≡ Entry hop
         as_entry s (Entry h) e = ap Entry (leads h e)
         as_entry s (Object o) e = absurd e
@@ -130,13 +130,10 @@ module _ (b : Checked) (ds : List Checked) (written : (c : Checked) → Member c
     pub network_route_there : 5 ≤ r → (i : InstanceId) (prefix : Block) (hop : RouteEntry) → is_hop i ≡ false → Member (route_at i prefix hop) (agent_rows M n.address).routes → (ChangesHands cs i prefix → ⊥) → Member (route_at i prefix hop) (agent.routes held)
     network_route_there rank i prefix hop net m keeps = by (compiled_is M n.address i prefix hop m)
       where
-        two : (r : ℕ) → 5 ≤ r → 2 ≤ r
-        two r h = omega (arith, h)
-
         by : IsCompiled M n.address i prefix hop → Member (route_at i prefix hop) (agent.routes held)
         by c = elim c.kind as (λ _. Member (route_at i prefix hop) (agent.routes held)) [
           | inl q ↦
-              route_there (two r rank) i prefix hop c.needed
+              route_there rank i prefix hop c.needed
               (inl (record { rank = rank; needed = record { node = n; stays = stays; name_is = refl; needed = c.needed }; to = q.to; attached = q.attached; imported = q.imported; prefix_is = q.prefix }))
               (λ h e. host_hop q.to c.row hop h q.row c.hop_is
               (network_row b ds written i net q.to q.attached q.imported (subst (λ (p : Block). ChangesHands cs i p → ⊥) (sym q.prefix) keeps) h.next_hop h.label (subst (λ (p : Block). RowStood cs i p h.next_hop h.label) (sym q.prefix) e)))
@@ -144,39 +141,46 @@ module _ (b : Checked) (ds : List Checked) (written : (c : Checked) → Member c
         ]
 
     -- ---- all routes
-    pub all_there : 21 ≤ r → (i : InstanceId) (prefix : Block) (hop : RouteEntry) → Member (route_at i prefix hop) (agent_rows M n.address).routes → (ChangesHands cs i prefix → ⊥) → Member (route_at i prefix hop) (agent.routes held)
-    all_there rank i prefix hop m keeps = by_kind (is_hop i) refl
+    pub all_there : 5 ≤ r → (i : InstanceId) (prefix : Block) (hop : RouteEntry) → ((row : TableRow) (t : SubnetRow M i prefix row) → 5 + suc t.d ≤ r) → Member (route_at i prefix hop) (agent_rows M n.address).routes → (ChangesHands cs i prefix → ⊥) → Member (route_at i prefix hop) (agent.routes held)
+    all_there five i prefix hop last m keeps = by_kind (is_hop i) refl
       where
-        five : (r : ℕ) → 21 ≤ r → 5 ≤ r
-        five r h = omega (arith, h)
-
-        two : (r : ℕ) → 21 ≤ r → 2 ≤ r
-        two r h = omega (arith, h)
-
-        last : (d k r : ℕ) → d < k → k ≤ 15 → 21 ≤ r → 5 + suc d ≤ r
-        last d k r g h e = omega (arith, g, h, e)
-
         c : IsCompiled M n.address i prefix hop
         c = compiled_is M n.address i prefix hop m
 
         by_kind : (a : Bool) → is_hop i ≡ a → Member (route_at i prefix hop) (agent.routes held)
-        by_kind false net = network_route_there (five r rank) i prefix hop net m keeps
+        by_kind false net = network_route_there five i prefix hop net m keeps
         by_kind true is = elim c.kind as (λ _. Member (route_at i prefix hop) (agent.routes held)) [
           | inl q ↦
-              route_there (two r rank) i prefix hop c.needed
-              (inl (record { rank = five r rank; needed = record { node = n; stays = stays; name_is = refl; needed = c.needed }; to = q.to; attached = q.attached; imported = q.imported; prefix_is = q.prefix }))
+              route_there five i prefix hop c.needed
+              (inl (record { rank = five; needed = record { node = n; stays = stays; name_is = refl; needed = c.needed }; to = q.to; attached = q.attached; imported = q.imported; prefix_is = q.prefix }))
               (λ h e. host_hop q.to c.row hop h q.row c.hop_is (hop_host_row b ds written i is q.to q.attached q.imported h.next_hop h.label (subst (λ (p : Block). RowStood cs i p h.next_hop h.label) (sym q.prefix) e)))
           | inr q ↦
-              route_there (two r rank) i prefix hop c.needed
-              (inr (record { needed = record { node = n; stays = stays; name_is = refl; needed = c.needed }; row = c.row; led = q; rank = last q.d q.side.chain.services r q.within ((ordered b ds written).short q.side.chain (side_use M q.side q.of_use)) rank }))
+              route_there five i prefix hop c.needed
+              (inr (record { needed = record { node = n; stays = stays; name_is = refl; needed = c.needed }; row = c.row; led = q; rank = last c.row q }))
               (λ h e. host_hop q.to c.row hop h q.row c.hop_is (subnet_row b ds written i prefix c.row q is h.next_hop h.label e))
         ]
 
-twenty_one : 21 ≤ 21
-twenty_one = omega arith
+    -- so it has all rows
+    pub rows_there : (most : ℕ) → ((s : Side) → Member s (sides M) → s.chain.services ≤ most) → most + 5 ≤ r → HasCommonRows M (ChangesHands cs) n.address (agent.rows held)
+    rows_there most bound rank =
+        let had = slice_had b ds written r x ss here lasting_stays some st n stays (two most r rank) in
+        record {
+          labels = labels_above (slice M n.address) (slice_in_use held) had;
+          acls = lists_above (slice M n.address) (slice_in_use held) had;
+          routes = λ r' m keeps. all_there (five most r rank) r'.0.0 r'.0.1 r'.1 (λ row t. last t.d t.side.chain.services r t.within (bound t.side t.of_use) rank) m keeps;
+        }
+      where
+        two : (most r : ℕ) → most + 5 ≤ r → 2 ≤ r
+        two most r h = omega (arith, h)
 
-two_less : 2 ≤ 21
-two_less = omega arith
+        five : (most r : ℕ) → most + 5 ≤ r → 5 ≤ r
+        five most r h = omega (arith, h)
+
+        last : (d k r : ℕ) → d < k → k ≤ most → most + 5 ≤ r → 5 + suc d ≤ r
+        last d k r g h e = omega (arith, g, h, e)
+
+fifteen : 15 + 5 ≤ 21
+fifteen = omega arith
 
 pub what_is_common_stays : AtMomentsOfWindows WhatIsCommonStays
 what_is_common_stays size positive x written before asked begins es window form n stays =
@@ -185,14 +189,7 @@ what_is_common_stays size positive x written before asked begins es window form 
     let b = first_one size positive x written before asked begins es window form in
     let ds = others size positive x written before asked begins es window form in
     let valid = all_are_written size positive x written before asked begins es window form in
-    let kept = IsKept b ds valid in
-    let to = each_weaker kept (StaysTo b ds valid 21) (λ s f. f.0 21) w.sessions all.1 in
-    let some = each_weaker kept (AreOfSome (b ∷ ds)) (λ s f. f.1.0) w.sessions all.1 in
-    let st = each_weaker kept (AreStood (b ∷ ds) b.topology.asn 4) (λ s f. f.1.1) w.sessions all.1 in
-    let had = slice_had b ds valid 21 w.setup w.sessions all.0 to some st n stays two_less in
-    let own = slice_in_use (agent_holdings w.setup n.name (views (sessions_of n.name w.sessions))) in
-    record {
-      labels = labels_above (slice (common (b ∷ ds)) n.address) own had;
-      acls = lists_above (slice (common (b ∷ ds)) n.address) own had;
-      routes = λ r m keeps. all_there b ds valid 21 w.setup w.sessions all.0 to some st n stays twenty_one r.0.0 r.0.1 r.1 m keeps;
-    }
+    let to = holds_kept b ds valid 21 w.sessions all.1 in
+    let some = some_kept b ds valid 21 w.sessions all.1 in
+    let st = stood_kept b ds valid 21 w.sessions all.1 in
+    rows_there b ds valid 21 w.setup w.sessions all.0 to some st n stays 15 (λ s m. (ordered b ds valid).short s.chain (side_use (common (b ∷ ds)) s m)) fifteen

@@ -7,7 +7,7 @@ use Rattle.machine_laws.specs.Sound.{IsCircuitAt}
 use Rattle.machine_laws.proofs.TableRows.{SubnetRow}
 use Rattle.machine_laws.specs.Compiled.{Attachment, attachments, holds}
 use Rattle.machine_laws.specs.Settling.{FairMap}
-use Rattle.machine_hitless_laws.proofs.Stood.{AreStood, stood}
+use Rattle.machine_hitless_laws.proofs.Stood.{HoldStood, stood}
 use Rattle.route_targets.specs.Numbers.{distinguisher_of}
 use Rattle.ov_types.specs.declared.vpn.VpnKey.{VpnKey}
 use Rattle.ov_types.specs.declared.numbers.InstanceId.{InstanceId}
@@ -41,7 +41,7 @@ use Rattle.machine_laws.specs.Headline.{IsWritten}
 use Rattle.machine_laws.proofs.Views.{far, own_named, views}
 use Rattle.machine_hitless_laws.specs.Common.{common, standing}
 use Rattle.machine_hitless_laws.proofs.Here.{Here, here_laid, here_stands, lasts}
-use Rattle.machine_hitless_laws.proofs.OfSome.{AllOfSome, AreOfSome, role_is}
+use Rattle.machine_hitless_laws.proofs.OfSome.{AreSomeTo, role_is, some_to}
 use Rattle.machine_hitless_laws.proofs.Stays.{HasKeys, StaysWhereLasting, is_lasting}
 
 pub some_is : {X : Type 0} (o : Option X) → is_some o ≡ true → (x : X) × (o ≡ Some x)
@@ -184,6 +184,19 @@ module _ (b : Checked) (ds : List Checked) (written : (c : Checked) → Member c
   abbrev pub StaysTo : ℕ → Session → Type 0
   StaysTo r s = StaysWhereLasting (Says r) (lasts b ds written) s
 
+  -- what both ends hold, where both nodes last
+  pub record HoldsAt (r : ℕ) (s : Session) : Type 0 where
+    pub near_up : s.near.phase ≡ Up
+    pub far_up : s.far.phase ≡ Up
+    pub near_held : HasKeys (Says r) (s.far.name, s.far.role) (s.near.name, s.near.role) s.near.held
+    pub far_held : HasKeys (Says r) (s.near.name, s.near.role) (s.far.name, s.far.role) s.far.held
+
+  abbrev pub HoldsTo : ℕ → Session → Type 0
+  HoldsTo r s = lasting s ≡ true → HoldsAt r s
+
+  pub holds_of : (r : ℕ) (s : Session) → StaysTo r s → HoldsTo r s
+  holds_of r s f l = let g = f l in record { near_up = g.near_up; far_up = g.far_up; near_held = g.near_held; far_held = g.far_held }
+
   -- ---- a session of a node, seen from it
   record Sided (r : ℕ) (x : Setup) (s : Session) : Type 0 where
     near_role : s.near.role ≡ role_of x s.near.name
@@ -192,8 +205,8 @@ module _ (b : Checked) (ds : List Checked) (written : (c : Checked) → Member c
     far_site : s.far.role ≡ Controller → Member s.far.name (controller_names x.topology)
     held : lasting s ≡ true → HasKeys (Says r) (s.far.name, s.far.role) (s.near.name, s.near.role) s.near.held
     up : lasting s ≡ true → s.near.phase ≡ Up
-    some : AllOfSome cs s.near.held
-    told : FairMap (stood cs b.topology.asn 4) (s.far.name, s.far.role) (s.near.name, s.near.role) s.near.held
+    some : FairMap (some_to cs r) (s.far.name, s.far.role) (s.near.name, s.near.role) s.near.held
+    told : FairMap (stood cs b.topology.asn r) (s.far.name, s.far.role) (s.near.name, s.near.role) s.near.held
 
   pub record Mine (r : ℕ) (x : Setup) (n : Name) (s : Session) : Type 0 where
     pub name : s.near.name ≡ n
@@ -203,12 +216,12 @@ module _ (b : Checked) (ds : List Checked) (written : (c : Checked) → Member c
     pub far_site : s.far.role ≡ Controller → Member s.far.name (controller_names x.topology)
     pub held : lasting s ≡ true → HasKeys (Says r) (s.far.name, s.far.role) (s.near.name, s.near.role) s.near.held
     pub up : lasting s ≡ true → s.near.phase ≡ Up
-    pub some : AllOfSome cs s.near.held
-    pub told : FairMap (stood cs b.topology.asn 4) (s.far.name, s.far.role) (s.near.name, s.near.role) s.near.held
+    pub some : FairMap (some_to cs r) (s.far.name, s.far.role) (s.near.name, s.near.role) s.near.held
+    pub told : FairMap (stood cs b.topology.asn r) (s.far.name, s.far.role) (s.near.name, s.near.role) s.near.held
 
-  sides_of : (r : ℕ) (x : Setup) (s : Session) → HasRoles x (nodes s) → Stands x.topology (nodes s) → StaysTo r s → AreOfSome cs s → AreStood cs b.topology.asn 4 s → Sided r x s × Sided r x (turned s)
+  sides_of : (r : ℕ) (x : Setup) (s : Session) → HasRoles x (nodes s) → Stands x.topology (nodes s) → HoldsTo r s → AreSomeTo cs r s → HoldStood cs b.topology.asn r s → Sided r x s × Sided r x (turned s)
   sides_of r x s roles at stays some st = (
-    record { near_role = roles.0; far_role = roles.1; near_site = near_at; far_site = far_at; held = λ l. (stays l).near_held; up = λ l. (stays l).near_up; some = some.near_held; told = st.near_held },
+    record { near_role = roles.0; far_role = roles.1; near_site = near_at; far_site = far_at; held = λ l. (stays l).near_held; up = λ l. (stays l).near_up; some = some.0; told = st.0 },
     record {
       near_role = roles.1;
       far_role = roles.0;
@@ -216,8 +229,8 @@ module _ (b : Checked) (ds : List Checked) (written : (c : Checked) → Member c
       far_site = near_at;
       held = λ l. (stays (swap (lasts b ds written s.far.name) (lasts b ds written s.near.name) l)).far_held;
       up = λ l. (stays (swap (lasts b ds written s.far.name) (lasts b ds written s.near.name) l)).far_up;
-      some = some.far_held;
-      told = st.far_held;
+      some = some.1;
+      told = st.1;
     },
   )
     where
@@ -233,7 +246,7 @@ module _ (b : Checked) (ds : List Checked) (written : (c : Checked) → Member c
           apart : Agent ≡ Controller → ⊥
           apart e = cc
 
-  module _ (r : ℕ) (x : Setup) (ss : List Session) (here : Here b ds written x (map nodes ss)) (stays : Each (StaysTo r) ss) (some : Each (AreOfSome cs) ss) (st : Each (AreStood cs b.topology.asn 4) ss) where
+  module _ (r : ℕ) (x : Setup) (ss : List Session) (here : Here b ds written x (map nodes ss)) (stays : Each (HoldsTo r) ss) (some : Each (AreSomeTo cs r) ss) (st : Each (HoldStood cs b.topology.asn r) ss) where
     abbrev places : List NodePair
     places = map nodes ss
 
@@ -247,7 +260,7 @@ module _ (b : Checked) (ds : List Checked) (written : (c : Checked) → Member c
         (sessions_of n ss)
         (each_and (λ s. s.near.name ≡ n) (Sided r x) (sessions_of n ss) (own_named n ss)
         (all_to_own (Sided r x) n ss
-        (each_weaker (λ s. (HasRoles x (nodes s) × Stands x.topology (nodes s)) × (StaysTo r s × (AreOfSome cs s × AreStood cs b.topology.asn 4 s))) (λ s. Sided r x s × Sided r x (turned s)) (λ s q. sides_of r x s q.0.0 q.0.1 q.1.0 q.1.1.0 q.1.1.1) ss
-        (each_and (λ s. HasRoles x (nodes s) × Stands x.topology (nodes s)) (λ s. StaysTo r s × (AreOfSome cs s × AreStood cs b.topology.asn 4 s)) ss
+        (each_weaker (λ s. (HasRoles x (nodes s) × Stands x.topology (nodes s)) × (HoldsTo r s × (AreSomeTo cs r s × HoldStood cs b.topology.asn r s))) (λ s. Sided r x s × Sided r x (turned s)) (λ s q. sides_of r x s q.0.0 q.0.1 q.1.0 q.1.1.0 q.1.1.1) ss
+        (each_and (λ s. HasRoles x (nodes s) × Stands x.topology (nodes s)) (λ s. HoldsTo r s × (AreSomeTo cs r s × HoldStood cs b.topology.asn r s)) ss
         (each_and (λ s. HasRoles x (nodes s)) (λ s. Stands x.topology (nodes s)) ss (of_nodes (HasRoles x) ss laid.roles) (of_nodes (Stands x.topology) ss (here_stands b ds written x places here)))
-        (each_and (StaysTo r) (λ s. AreOfSome cs s × AreStood cs b.topology.asn 4 s) ss stays (each_and (AreOfSome cs) (AreStood cs b.topology.asn 4) ss some st))))))
+        (each_and (HoldsTo r) (λ s. AreSomeTo cs r s × HoldStood cs b.topology.asn r s) ss stays (each_and (AreSomeTo cs r) (HoldStood cs b.topology.asn r) ss some st))))))

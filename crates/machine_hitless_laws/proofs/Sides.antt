@@ -147,8 +147,14 @@ module _ (b : Checked) (ds : List Checked) (written : (c : Checked) → Member c
   }
 
   -- ---- its circuits
+  -- an attachment is that of a circuit, which stands under its label
+  pub record IsOfCircuit (circuit : ℕ) (a : Attachment) : Type 0 where
+    pub service : ServiceNo
+    pub there : Member (key.Attach (circuit_label_of circuit).0, low.AttachCircuit circuit service a.node) (objects M)
+    pub label : a.label ≡ circuit_label_of circuit
+
   circuit_object : (circuit u : ℕ) → use_of (circuit_instance_of circuit) ≡ u → is_common_use (standing cs) (map low_in ds) (low_in b) u (object (low_in b) (key.ChainUse u)) ≡ true → (o : Option LowValue) → object (low_in b) (key.Attach (circuit_label_of circuit).0) ≡ o → is_circuit_object (standing cs) (map low_in ds) circuit o ≡ true
-      → (a : Attachment) × Member a (attachments M) × (a.instance ≡ circuit_instance_of circuit) × (a.prefix ≡ circuit_prefix circuit)
+      → (a : Attachment) × Member a (attachments M) × (a.instance ≡ circuit_instance_of circuit) × (a.prefix ≡ circuit_prefix circuit) × IsOfCircuit circuit a
   circuit_object circuit u is used (Some (low.AttachCircuit c s n)) e h =
       let k : LowKey = key.Attach (circuit_label_of circuit).0 in
       let v : LowValue = low.AttachCircuit c s n in
@@ -160,11 +166,13 @@ module _ (b : Checked) (ds : List Checked) (written : (c : Checked) → Member c
       let there = some_of b ds written (object M k) (in_common b ds written k v w.0 (object_is (low_in b) k v e) w.1 home) in
       let part = common_is_part b ds b (inl refl) k there.0 there.1 in
       let value : there.0 ≡ v = circuit_part there.0 part.0 c s n part.2 (same_Some part.0 v (sym part.1 ∙ e)) in
-      let a : Attachment = record { label = circuit_label_of circuit; instance = circuit_instance_of c; prefix = circuit_prefix c; node = n } in (
+      let a : Attachment = record { label = circuit_label_of circuit; instance = circuit_instance_of c; prefix = circuit_prefix c; node = n } in
+      let mine : Member (k, v) (objects M) = subst (λ (v : LowValue). Member (k, v) (objects M)) value (in_objects M k there.0 (object_is M k there.0 there.1)) in (
         a,
-        in_filter_map (λ (e : LowKey × LowValue). as_attachment e.0 e.1) (k, v) a (objects M) (subst (λ (v : LowValue). Member (k, v) (objects M)) value (in_objects M k there.0 (object_is M k there.0 there.1))) refl,
+        in_filter_map (λ (e : LowKey × LowValue). as_attachment e.0 e.1) (k, v) a (objects M) mine refl,
         ap circuit_instance_of same,
         ap circuit_prefix same,
+        record { service = s; there = subst (λ (c : ℕ). Member (k, low.AttachCircuit c s n) (objects M)) same mine; label = refl },
       )
     where
       circuit_part : (w v : LowValue) (c : ℕ) (s : ServiceNo) (n : Addr) → IsPartOf w v → v ≡ low.AttachCircuit c s n → w ≡ low.AttachCircuit c s n
@@ -188,7 +196,7 @@ module _ (b : Checked) (ds : List Checked) (written : (c : Checked) → Member c
   both_circuits u services (low.AttachCircuit c s d) n e f h = absurd (true≢false (sym h))
   both_circuits u services (low.Acl s q) n e f h = absurd (true≢false (sym h))
 
-  pub circuit_there : (s : Side) → Member s (sides M) → (d : ℕ) → d < s.chain.services → (a : Attachment) × Member a (attachments M) × IsCircuitAt s (suc d) a
+  pub circuit_there : (s : Side) → Member s (sides M) → (d : ℕ) → d < s.chain.services → (a : Attachment) × Member a (attachments M) × IsCircuitAt s (suc d) a × IsOfCircuit (circuit_at s (suc d)) a
   circuit_there s m d within =
       let q = from_filter_map (λ (e : LowKey × LowValue). as_use e.0 e.1) s.chain (objects M) (side_use M s m) in
       by q.0.0 q.0.1 q.1 q.2
@@ -219,7 +227,7 @@ module _ (b : Checked) (ds : List Checked) (written : (c : Checked) → Member c
           side_by true k d g h = (at_place (k - suc d) k (fewer k d g) h).0
           side_by false k d g h = subst (λ (n : ℕ). is_common_circuit (standing cs) (map low_in ds) (low_in b) (right_circuit_of s.chain.number n) ≡ true) (next d) (at_place d k g h).1
 
-      by : (k : LowKey) (w : LowValue) → Member (k, w) (objects M) → as_use k w ≡ Some s.chain → (a : Attachment) × Member a (attachments M) × IsCircuitAt s (suc d) a
+      by : (k : LowKey) (w : LowValue) → Member (k, w) (objects M) → as_use k w ≡ Some s.chain → (a : Attachment) × Member a (attachments M) × IsCircuitAt s (suc d) a × IsOfCircuit (circuit_at s (suc d)) a
       by (key.ChainUse u) w i e =
           let there = ap as_object (object_of M (key.ChainUse u) w i) in
           let o = common_of (standing cs) (map low_in ds) (low_in b) (key.ChainUse u) w there in
@@ -231,7 +239,7 @@ module _ (b : Checked) (ds : List Checked) (written : (c : Checked) → Member c
           let all = both_circuits u s.chain.services o.value p.0 p.1 (sym p.2.services) home in
           let used : is_common_use (standing cs) (map low_in ds) (low_in b) u (object (low_in b) (key.ChainUse u)) ≡ true = ap (is_common_use (standing cs) (map low_in ds) (low_in b) u) (ap as_object o.held) ∙ home in
           let a = circuit_object (circuit_at s (suc d)) u (number_is ∙ sym number) used (object (low_in b) (key.Attach (circuit_label_of (circuit_at s (suc d))).0)) refl (found u number all) in
-          (a.0, a.1, (a.2 ∙ circuit_at-instance s (suc d), a.3))
+          (a.0, a.1, (a.2 ∙ circuit_at-instance s (suc d), a.3), a.4)
         where
           use_number : (u : ℕ) (w : LowValue) (n : Use) → as_use (key.ChainUse u) w ≡ Some n → u ≡ n.number
           use_number u (low.ChainUse l r ls rs hops) n e = ap (λ (n : Use). n.number) (same_Some _ n e)

@@ -37,7 +37,7 @@ use Rattle.node_laws.proofs.NodeModel.Wanted.{slice_is}
 use Rattle.machine_model.specs.Events.{after, forwarders}
 use Rattle.machine_model.specs.Events.{agent_rows as held_by_agent}
 use Rattle.machine_model.specs.Moments.{Each, nodes}
-use Rattle.machine_model.specs.Network.{agent_holdings, heard_from, sessions_of, start}
+use Rattle.machine_model.specs.Network.{MachineState, agent_holdings, heard_from, sessions_of, start}
 use Rattle.machine_model.specs.Session.{Agent, Controller, Session, is_up_phase}
 use Rattle.machine_model.specs.Setup.{Name, Setup, checked, low_in, opening}
 use Rattle.machine_model.proofs.Asking.{names_of_nodes}
@@ -53,16 +53,16 @@ use Rattle.machine_laws.proofs.Views.{views}
 use Rattle.machine_hitless_laws.specs.Arriving.{StartsWhereCommon, agent_at_node}
 use Rattle.machine_hitless_laws.specs.Common.{common, rows_at, standing}
 use Rattle.machine_hitless_laws.specs.Windows.{AtMomentsOfWindows}
-use Rattle.machine_hitless_laws.proofs.Arriving.{key_of, labelled}
+use Rattle.machine_hitless_laws.proofs.Arriving.{LabelsStay, key_of, labelled}
 use Rattle.machine_hitless_laws.proofs.Here.{Here, here_laid, here_sound, stands_among}
-use Rattle.machine_hitless_laws.proofs.Lasting.{IsKept}
+use Rattle.machine_hitless_laws.proofs.Lasting.{holds_kept, some_kept, stood_kept}
 use Rattle.machine_hitless_laws.proofs.Moments.{all_are_written, every_moment, first_one, others}
-use Rattle.machine_hitless_laws.proofs.OfSome.{AllOfSome, AreOfSome, none_of_some}
+use Rattle.machine_hitless_laws.proofs.OfSome.{AllOfSome, AreSomeTo, all_some, none_of_some}
 use Rattle.machine_hitless_laws.proofs.Parts.{IsPartOf, common_is_part}
 use Rattle.machine_hitless_laws.proofs.Routes.{what_is_common_stays}
-use Rattle.machine_hitless_laws.proofs.Says.{Mine, StaysTo, mine}
+use Rattle.machine_hitless_laws.proofs.Says.{HoldsTo, Mine, mine}
 use Rattle.machine_hitless_laws.proofs.Static.{stood_name}
-use Rattle.machine_hitless_laws.proofs.Stood.{AreStood, StoodAt}
+use Rattle.machine_hitless_laws.proofs.Stood.{HoldStood, StoodAt}
 
 -- ---- the first agent that has a port is the one that alone has it
 abbrev Source : Type 0
@@ -112,7 +112,7 @@ module _ (b : Checked) (ds : List Checked) (written : (c : Checked) → Member c
   none_told : (name : Name) → IsTold name empty
   none_told name = (none_of_some cs, λ l v a e at. absurd (empty_values key_cmp (λ k v. ⊥) (Low (key.Attach l)) (Object v) e))
 
-  module _ (r : ℕ) (x : Setup) (ss : List Session) (here : Here b ds written x (map nodes ss)) (lasting_stays : Each (StaysTo b ds written r) ss) (some : Each (AreOfSome cs) ss) (st : Each (AreStood cs b.topology.asn 4) ss) where
+  module _ (r : ℕ) (x : Setup) (ss : List Session) (here : Here b ds written x (map nodes ss)) (two : 2 ≤ r) (lasting_stays : Each (HoldsTo b ds written r) ss) (some : Each (AreSomeTo cs r) ss) (st : Each (HoldStood cs b.topology.asn r) ss) where
     module _ (m : Node) (there : Member m x.topology.nodes) where
       found : node_named x.topology m.name ≡ Some m
       found = found_alone m x.topology.nodes (names_of_nodes x.topology (here_sound b ds written x (map nodes ss) here).named.apart) there
@@ -123,14 +123,11 @@ module _ (b : Checked) (ds : List Checked) (written : (c : Checked) → Member c
       listed : (c : Name) → Member c m.controllers → role_of x c ≡ Controller
       listed c i = (here_laid b ds written x (map nodes ss) here).listed m.name m found c i
 
-      four : 1 ≤ 4
-      four = omega arith
-
       told_by : (c : Name) → role_of x c ≡ Controller → (s : Session) → Mine b ds written r x m.name s → s.far.name ≡ c → IsTold m.name s.near.held
       told_by c control s q is = (
-        q.some,
+        all_some cs r two (s.far.name, s.far.role) (s.near.name, s.near.role) s.near.held q.some,
         λ l v a e at. subst (λ (n : Name). StoodAt cs n a) q.name
-            (q.told (Low (key.Attach l)) (Object v) e four (q.far_role ∙ ap (role_of x) is ∙ control) (q.near_role ∙ ap (role_of x) q.name ∙ is_agent) a at),
+            (q.told (Low (key.Attach l)) (Object v) e two (q.far_role ∙ ap (role_of x) is ∙ control) (q.near_role ∙ ap (role_of x) q.name ∙ is_agent) a at),
       )
 
       abbrev own : List Session
@@ -175,36 +172,43 @@ under_port : (o : Option Attached) (f : Forwarder) (s : Source) → option_map (
 under_port (Some what) f s e = (what, refl)
 under_port None f s e = absurd (none_some s e)
 
+module _ (b : Checked) (ds : List Checked) (written : (c : Checked) → Member c (b ∷ ds) → IsWritten (opening c)) (w : MachineState) (here : Here b ds written w.setup (map nodes w.sessions)) (r : ℕ) (two : 2 ≤ r) (to : Each (HoldsTo b ds written r) w.sessions) (some : Each (AreSomeTo (b ∷ ds) r) w.sessions) (st : Each (HoldStood (b ∷ ds) b.topology.asn r) w.sessions) (stay : LabelsStay (b ∷ ds) w) where
+  pub start_common : StartsWhereCommon (b ∷ ds) w
+  start_common n from p h =
+      let nodes_now : List Node = w.setup.topology.nodes in
+      let f : Node → Forwarder = agent_at_node w in
+      let label : LabelNo = port_label_of p.source in
+      let n_there : Member n nodes_now = stands_among b ds written n h.stays (checked w.setup) here.among in
+      let mine_label = stay n h.stays (label, Port p.source from) h.label in
+      let has : source_at p (f n) ≡ Some (f n, from) = ap (λ (o : Option Attached). option_map (λ (i : InstanceId). (f n, i)) (as_port o)) (labelled (held_by_agent w n.name) label (Port p.source from) mine_label) in
+      let ours = from_filter_map (λ (e : LowKey × LowValue). attached e.0 e.1) (label, Port p.source from) (slice (common (b ∷ ds)) n.address) h.label in
+      let our_key : ours.0.0 ≡ key.Attach label.0 = key_of ours.0.0 ours.0.1 (label, Port p.source from) ours.2 in
+      let our_one : Member (key.Attach label.0, ours.0.1) (slice (common (b ∷ ds)) n.address) = subst (λ (k : LowKey). Member (k, ours.0.1) (slice (common (b ∷ ds)) n.address)) our_key ours.1 in
+      first_is p (forwarders w) (f n, from) (in_map f n nodes_now n_there) has
+      (λ g t in_g is.
+      let m = from_map f g nodes_now in_g in
+      let is_m : source_at p (f m.0) ≡ Some t = ap (source_at p) m.2 ∙ is in
+      let what = under_port (under (rows_at w m.0) label) (f m.0) t is_m in
+      let theirs = from_filter_map (λ (e : LowKey × LowValue). attached e.0 e.1) (label, what.0) (slice_in_use (held_by_agent w m.0.name)) (attached_in (rows_at w m.0) label what.0 what.1) in
+      let their_key : theirs.0.0 ≡ key.Attach label.0 = key_of theirs.0.0 theirs.0.1 (label, what.0) theirs.2 in
+      let names : m.0.name ≡ n.name =
+      at_home b ds written r w.setup w.sessions here two to some st m.0 m.1 n h.stays label.0 ours.0.1 theirs.0.1 our_one (part_of_port b ds written ours.0.0 ours.0.1 label (Port p.source from) ours.2)
+      (subst (λ (k : LowKey). Member (k, theirs.0.1) (slice_in_use (held_by_agent w m.0.name))) their_key theirs.1) in
+      let one : m.0 ≡ n =
+      same_Some m.0 n (sym (found b ds written r w.setup w.sessions here two to some st m.0 m.1) ∙ ap (node_named w.setup.topology) names ∙ found b ds written r w.setup w.sessions here two to some st n n_there) in
+      sym m.2 ∙ ap f one)
+
+two_of_five : 2 ≤ 5
+two_of_five = omega arith
+
 pub start_where_common : AtMomentsOfWindows StartsWhereCommon
-start_where_common size positive x written before asked begins es window form n from p h =
+start_where_common size positive x written before asked begins es window form =
     let all = every_moment size positive x written before asked begins es window form in
     let w = after size (after size (start x) before) es in
     let b = first_one size positive x written before asked begins es window form in
     let ds = others size positive x written before asked begins es window form in
     let valid = all_are_written size positive x written before asked begins es window form in
-    let kept = IsKept b ds valid in
-    let to = each_weaker kept (StaysTo b ds valid 5) (λ s f. f.0 5) w.sessions all.1 in
-    let some = each_weaker kept (AreOfSome (b ∷ ds)) (λ s f. f.1.0) w.sessions all.1 in
-    let st = each_weaker kept (AreStood (b ∷ ds) b.topology.asn 4) (λ s f. f.1.1) w.sessions all.1 in
-    let nodes_now : List Node = w.setup.topology.nodes in
-    let f : Node → Forwarder = agent_at_node w in
-    let label : LabelNo = port_label_of p.source in
-    let n_there : Member n nodes_now = stands_among b ds valid n h.stays (checked w.setup) all.0.among in
-    let mine_label = (what_is_common_stays size positive x written before asked begins es window form n h.stays).labels (label, Port p.source from) h.label in
-    let has : source_at p (f n) ≡ Some (f n, from) = ap (λ (o : Option Attached). option_map (λ (i : InstanceId). (f n, i)) (as_port o)) (labelled (held_by_agent w n.name) label (Port p.source from) mine_label) in
-    let ours = from_filter_map (λ (e : LowKey × LowValue). attached e.0 e.1) (label, Port p.source from) (slice (common (b ∷ ds)) n.address) h.label in
-    let our_key : ours.0.0 ≡ key.Attach label.0 = key_of ours.0.0 ours.0.1 (label, Port p.source from) ours.2 in
-    let our_one : Member (key.Attach label.0, ours.0.1) (slice (common (b ∷ ds)) n.address) = subst (λ (k : LowKey). Member (k, ours.0.1) (slice (common (b ∷ ds)) n.address)) our_key ours.1 in
-    first_is p (forwarders w) (f n, from) (in_map f n nodes_now n_there) has
-    (λ g t in_g is.
-    let m = from_map f g nodes_now in_g in
-    let is_m : source_at p (f m.0) ≡ Some t = ap (source_at p) m.2 ∙ is in
-    let what = under_port (under (rows_at w m.0) label) (f m.0) t is_m in
-    let theirs = from_filter_map (λ (e : LowKey × LowValue). attached e.0 e.1) (label, what.0) (slice_in_use (held_by_agent w m.0.name)) (attached_in (rows_at w m.0) label what.0 what.1) in
-    let their_key : theirs.0.0 ≡ key.Attach label.0 = key_of theirs.0.0 theirs.0.1 (label, what.0) theirs.2 in
-    let names : m.0.name ≡ n.name =
-    at_home b ds valid 5 w.setup w.sessions all.0 to some st m.0 m.1 n h.stays label.0 ours.0.1 theirs.0.1 our_one (part_of_port b ds valid ours.0.0 ours.0.1 label (Port p.source from) ours.2)
-    (subst (λ (k : LowKey). Member (k, theirs.0.1) (slice_in_use (held_by_agent w m.0.name))) their_key theirs.1) in
-    let one : m.0 ≡ n =
-    same_Some m.0 n (sym (found b ds valid 5 w.setup w.sessions all.0 to some st m.0 m.1) ∙ ap (node_named w.setup.topology) names ∙ found b ds valid 5 w.setup w.sessions all.0 to some st n n_there) in
-    sym m.2 ∙ ap f one)
+    let to = holds_kept b ds valid 5 w.sessions all.1 in
+    let some = some_kept b ds valid 5 w.sessions all.1 in
+    let st = stood_kept b ds valid 5 w.sessions all.1 in
+    start_common b ds valid w all.0 5 two_of_five to some st (λ n m. (what_is_common_stays size positive x written before asked begins es window form n m).labels)

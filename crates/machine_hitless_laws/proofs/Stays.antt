@@ -85,7 +85,7 @@ module _ (Says : Name × Role → Name × Role → Key → Type 0) where
   kept_at from to k (Some v) (Some w) ds e h =
       elim (same_value v w) as (λ c. AllByRecursion (λ d. IsKept from to (Carries d)) (cons_option (cond c None (Some (Put k w))) ds)) [ true ↦ h | false ↦ ((λ _. tt), h) ]
 
-  difference_kept : (from to : Name × Role) (a b : Map) → HasKeys from to b → AreKept from to (map Carries (difference a b))
+  pub difference_kept : (from to : Name × Role) (a b : Map) → HasKeys from to b → AreKept from to (map Carries (difference a b))
   difference_kept from to a b h = carried (difference a b) (each (keys_of_either a b))
     where
       each : (ks : List Key) → AllByRecursion (λ d. IsKept from to (Carries d)) (filter_map (change_at same_value a b) ks)

@@ -65,7 +65,7 @@ use Rattle.machine_laws.proofs.Told.{pair, publication_cases, publications, subs
 use Rattle.machine_laws.proofs.Views.{far, fars_are, heard, own_named, views}
 use Rattle.machine_hitless_laws.specs.Common.{InSome}
 use Rattle.machine_hitless_laws.proofs.Here.{Here, here_laid}
-use Rattle.machine_hitless_laws.proofs.OfSome.{AllOfSome, AreOfSome, each_from, none_of_some}
+use Rattle.machine_hitless_laws.proofs.OfSome.{AllOfSome, AreSomeTo, HeldFair, all_some, each_from, none_of_some, some_to}
 use Rattle.machine_hitless_laws.proofs.Seats.{enumerated, feed_of, peers_of}
 
 -- ---- what stood in configurations
@@ -121,17 +121,34 @@ module _ (cs : List Checked) where
 
   -- slices, then publications, routes and rows
   abbrev pub kind : Key → ℕ
-  kind (Low k) = 1
-  kind (Publish i prefix) = 2
-  kind (Vpn k) = 3
-  kind (Row i prefix) = 4
-  kind (Subscribe i) = 2
+  kind (Low k) = 2
+  kind (Publish i prefix) = 3
+  kind (Vpn k) = 4
+  kind (Row i prefix) = 5
+  kind (Subscribe i) = 3
 
   abbrev pub stood : ℕ → ℕ → Name × Role → Name × Role → Key → Value → Type 0
   stood asn j from to k v = kind k ≤ j → EntryStood asn from to k v
 
   abbrev pub AreStood : ℕ → ℕ → Session → Type 0
   AreStood asn j = Fair (stood asn j)
+
+  abbrev pub HoldStood : ℕ → ℕ → Session → Type 0
+  HoldStood asn j = HeldFair (stood asn j)
+
+  -- what stood up to the last rank stood up to any
+  last_kind : (k : Key) → kind k ≤ 5
+  last_kind (Low k) = omega arith
+  last_kind (Publish i prefix) = omega arith
+  last_kind (Vpn k) = omega arith
+  last_kind (Row i prefix) = omega arith
+  last_kind (Subscribe i) = omega arith
+
+  pub stood_weaker : (asn r : ℕ) (s : Session) → AreStood asn 5 s → HoldStood asn r s
+  stood_weaker asn r s f = ((λ k v e _. f.near_held k v e (last_kind k)), (λ k v e _. f.far_held k v e (last_kind k)))
+
+  pub stood_held : (asn j : ℕ) (s : Session) → AreStood asn j s → HoldStood asn j s
+  stood_held asn j s f = (f.near_held, f.far_held)
 
 -- ---- where a circuit's publisher is
 abbrev IsPublisher : List Told → ℕ → Addr → LabelNo → Type 0
@@ -212,7 +229,7 @@ module _ (b : Checked) (ds : List Checked) (written : (c : Checked) → Member c
       let o = some (Low q.0.0) (Object q.0.1) (object_of f q.0.0 q.0.1 q.1) in
       (o.0, o.1, in_sides (low_in o.0) s.chain s.is_right (in_filter_map (λ (e : LowKey × LowValue). as_use e.0 e.1) q.0 s.chain (objects (low_in o.0)) (in_low o.0 q.0.0 q.0.1 o.2) q.2))
 
-  module _ (asn j : ℕ) (x : Setup) (ss : List Session) (here : Here b ds written x (map nodes ss)) (asn_is : x.topology.asn ≡ asn) (some : Each (AreOfSome cs) ss) (st : Each (AreStood cs asn j) ss) where
+  module _ (asn j : ℕ) (x : Setup) (ss : List Session) (here : Here b ds written x (map nodes ss)) (asn_is : x.topology.asn ≡ asn) (some : Each (AreSomeTo cs j) ss) (st : Each (HoldStood cs asn j) ss) where
     laid : IsLaid x (map nodes ss)
     laid = here_laid b ds written x (map nodes ss) here
 
@@ -227,14 +244,14 @@ module _ (b : Checked) (ds : List Checked) (written : (c : Checked) → Member c
     record Side' (s : Session) : Type 0 where
       near_role : s.near.role ≡ role_of x s.near.name
       far_role : s.far.role ≡ role_of x s.far.name
-      some_held : AllOfSome cs s.near.held
+      some_held : FairMap (some_to cs j) (s.far.name, s.far.role) (s.near.name, s.near.role) s.near.held
       held : FairMap (stood cs asn j) (s.far.name, s.far.role) (s.near.name, s.near.role) s.near.held
 
     record Own (n : Name) (s : Session) : Type 0 where
       name : s.near.name ≡ n
       near_role : s.near.role ≡ role_of x s.near.name
       far_role : s.far.role ≡ role_of x s.far.name
-      some_held : AllOfSome cs s.near.held
+      some_held : FairMap (some_to cs j) (s.far.name, s.far.role) (s.near.name, s.near.role) s.near.held
       held : FairMap (stood cs asn j) (s.far.name, s.far.role) (s.near.name, s.near.role) s.near.held
 
     owns : (n : Name) → Each (Own n) (sessions_of n ss)
@@ -242,9 +259,9 @@ module _ (b : Checked) (ds : List Checked) (written : (c : Checked) → Member c
         each_weaker (λ s. (s.near.name ≡ n) × Side' s) (Own n) (λ s q. record { name = q.0; near_role = q.1.near_role; far_role = q.1.far_role; some_held = q.1.some_held; held = q.1.held }) (sessions_of n ss)
         (each_and (λ s. s.near.name ≡ n) Side' (sessions_of n ss) (own_named n ss)
         (all_to_own Side' n ss
-        (each_weaker (λ s. HasRoles x (nodes s) × (AreOfSome cs s × AreStood cs asn j s)) (λ s. Side' s × Side' (turned s))
-        (λ s q. (record { near_role = q.0.0; far_role = q.0.1; some_held = q.1.0.near_held; held = q.1.1.near_held }, record { near_role = q.0.1; far_role = q.0.0; some_held = q.1.0.far_held; held = q.1.1.far_held })) ss
-        (each_and (λ s. HasRoles x (nodes s)) (λ s. AreOfSome cs s × AreStood cs asn j s) ss (of_nodes (HasRoles x) ss laid.roles) (each_and (AreOfSome cs) (AreStood cs asn j) ss some st)))))
+        (each_weaker (λ s. HasRoles x (nodes s) × (AreSomeTo cs j s × HoldStood cs asn j s)) (λ s. Side' s × Side' (turned s))
+        (λ s q. (record { near_role = q.0.0; far_role = q.0.1; some_held = q.1.0.0; held = q.1.1.0 }, record { near_role = q.0.1; far_role = q.0.0; some_held = q.1.0.1; held = q.1.1.1 })) ss
+        (each_and (λ s. HasRoles x (nodes s)) (λ s. AreSomeTo cs j s × HoldStood cs asn j s) ss (of_nodes (HasRoles x) ss laid.roles) (each_and (AreSomeTo cs j) (HoldStood cs asn j) ss some st)))))
 
     module _ (n : Name) where
       abbrev own : List Session
@@ -253,8 +270,14 @@ module _ (b : Checked) (ds : List Checked) (written : (c : Checked) → Member c
       abbrev h : Holdings
       h = control_holdings x n (views own)
 
-      feed_some : AllOfSome cs h.feed
-      feed_some = feed_of (AllOfSome cs) (none_of_some cs) own (each_weaker (Own n) (λ s. AllOfSome cs s.near.held) (λ s o. o.some_held) own (owns n))
+      feed_some : 2 ≤ j → AllOfSome cs h.feed
+      feed_some rank = feed_of (AllOfSome cs) (none_of_some cs) own (each_weaker (Own n) (λ s. AllOfSome cs s.near.held) (λ s o. all_some cs j rank (s.far.name, s.far.role) (s.near.name, s.near.role) s.near.held o.some_held) own (owns n))
+
+      two : (j : ℕ) → 3 ≤ j → 2 ≤ j
+      two j h = omega (arith, h)
+
+      two_of_four : (j : ℕ) → 4 ≤ j → 2 ≤ j
+      two_of_four j h = omega (arith, h)
 
       -- ---- a control node
       module _ (s : Session) (among : Member s own) (mine : Own n s) (control : s.near.role ≡ Controller) where
@@ -303,24 +326,24 @@ module _ (b : Checked) (ds : List Checked) (written : (c : Checked) → Member c
             let small = known_small (low_in q.config) q.to.instance sound.ordered (sound.known q.to q.attached) in
             ap instance_in e ∙ subst (λ (i : InstanceId). instance_in (distinguisher_of a i) ≡ i) q.instance (instance_in-distinguisher a q.to.instance small)
 
-        published : (a : Told) → Member a h.agents → 2 ≤ j → (i : InstanceId) (prefix : Block) (label : LabelNo) → get a.map (Publish i prefix) ≡ Some (Label label) → (name : Name) × StoodAt cs name a.address × HostStood cs name i prefix label
+        published : (a : Told) → Member a h.agents → 3 ≤ j → (i : InstanceId) (prefix : Block) (label : LabelNo) → get a.map (Publish i prefix) ≡ Some (Label label) → (name : Name) × StoodAt cs name a.address × HostStood cs name i prefix label
         published a m rank i prefix label e =
             let t = told_is a m in
             (t.0.far.name, t.4, t.1.held (Publish i prefix) (Label label) (ap (λ (m : Map). get m (Publish i prefix)) (sym t.3) ∙ e) rank)
 
-        own_stood : 2 ≤ j → (p : Path) → Member p (own_paths h) → IsPath p
+        own_stood : 3 ≤ j → (p : Path) → Member p (own_paths h) → IsPath p
         own_stood rank p m =
             let o = own_route_from h p m in
             let q = published o.agent o.told rank o.instance p.prefix p.label o.publishes in
             (o.instance, o.targets ∙ ap (λ (n : ℕ). target_of n o.instance ∷ []) asn_is, record { name = q.0; stood = subst (StoodAt cs q.0) (sym o.next_hop) q.1; leads = inl q.2 }, distinguished q.0 o.instance p.prefix p.label o.agent.address p.rd q.2 o.rd)
 
-        reoriginated_stood : 2 ≤ j → (p : Path) → Member p (reoriginated_paths h) → (i : InstanceId) × (p.targets ≡ target_of asn i ∷ []) × ((name : Name) × StoodAt cs name p.next_hop × LedStood cs name i p.prefix p.label) × (instance_in p.rd ≡ i)
+        reoriginated_stood : 3 ≤ j → (p : Path) → Member p (reoriginated_paths h) → (i : InstanceId) × (p.targets ≡ target_of asn i ∷ []) × ((name : Name) × StoodAt cs name p.next_hop × LedStood cs name i p.prefix p.label) × (instance_in p.rd ≡ i)
         reoriginated_stood rank p m =
             let o = reoriginated_from h p m in
             let circuit = circuit_at o.side (suc o.depth) in
             let a = publisher_at h.agents circuit p.next_hop p.label o.published in
             let q = published a.0 a.1 rank (circuit_instance_of circuit) (circuit_prefix circuit) p.label a.3 in
-            let side = side_of_some h.feed feed_some o.side o.held in
+            let side = side_of_some h.feed (feed_some (two j rank)) o.side o.held in
             let attached = subst (λ (i : InstanceId). HostStood cs q.0 i (circuit_prefix circuit) p.label) (circuit_at-instance o.side (suc o.depth)) q.2 in (
               hop_at o.side (suc o.depth),
               o.targets ∙ ap (λ (n : ℕ). target_of n (hop_at o.side (suc o.depth)) ∷ []) asn_is,
@@ -342,7 +365,7 @@ module _ (b : Checked) (ds : List Checked) (written : (c : Checked) → Member c
               distinguished q.0 (hop_at o.side (suc o.depth)) (circuit_prefix circuit) p.label p.next_hop p.rd attached o.rd,
             )
 
-        route_stood : 2 ≤ j → (p : Path) → Member p (own_paths h ++ reoriginated_paths h) → IsPath p
+        route_stood : 3 ≤ j → (p : Path) → Member p (own_paths h ++ reoriginated_paths h) → IsPath p
         route_stood rank p m =
             elim (in_either p (own_paths h) (reoriginated_paths h) m) as (λ _. IsPath p) [
               | inl l ↦ own_stood rank p l
@@ -355,7 +378,7 @@ module _ (b : Checked) (ds : List Checked) (written : (c : Checked) → Member c
             let q = from_map route_entry (pair k v) (own_paths h ++ reoriginated_paths h) (from_entry key_total key_exact k v (map route_entry (own_paths h ++ reoriginated_paths h)) e) in
             subst (λ (e : Key × Value). kind cs e.0 ≤ suc j → EntryStood cs asn from to e.0 e.1) q.2 (λ rank. route_stood (lower j rank) q.0 q.1)
           where
-            lower : (j : ℕ) → 3 ≤ suc j → 2 ≤ j
+            lower : (j : ℕ) → 4 ≤ suc j → 3 ≤ j
             lower j h = omega (arith, h)
 
         -- ---- towards an agent
@@ -372,7 +395,7 @@ module _ (b : Checked) (ds : List Checked) (written : (c : Checked) → Member c
         abbrev VpnStood : Map → Type 0
         VpnStood m = (k : Key) (v : Value) (p : Path) (e : ℕ) → get m k ≡ Some v → peer_path e k v ≡ Some p → IsPath p
 
-        vpn_stood : (from to : Name × Role) (m : Map) → 3 ≤ j → FairMap (stood cs asn j) from to m → VpnStood m
+        vpn_stood : (from to : Name × Role) (m : Map) → 4 ≤ j → FairMap (stood cs asn j) from to m → VpnStood m
         vpn_stood from to m rank f (Vpn k) v p e at is = peer_path_stood e (Vpn k) v p is (f (Vpn k) v at rank)
         vpn_stood from to m rank f (Low k) v p e at is = absurd (none_some p is)
         vpn_stood from to m rank f (Row i y) v p e at is = absurd (none_some p is)
@@ -382,14 +405,14 @@ module _ (b : Checked) (ds : List Checked) (written : (c : Checked) → Member c
         no_vpn : VpnStood empty
         no_vpn k v p e at is = absurd (empty_values key_cmp (λ k v. ⊥) k v at)
 
-        peer_stood : 3 ≤ j → (p : Path) → Member p (peer_paths h) → IsPath p
+        peer_stood : 4 ≤ j → (p : Path) → Member p (peer_paths h) → IsPath p
         peer_stood rank p m =
             let q = from_flat_map (λ (p : ℕ × Map). filter_map (λ e. peer_path p.0 e.0 e.1) (entries p.1)) p (enumerate_from 1 h.peers) m in
             let e = from_filter_map (λ (e : Key × Value). peer_path q.0.0 e.0 e.1) p (entries q.0.1) q.2 in
             peers_of VpnStood no_vpn own (each_weaker (Own n) (λ s. VpnStood s.near.held) (λ s o. vpn_stood (s.far.name, s.far.role) (s.near.name, s.near.role) s.near.held rank o.held) own (owns n))
             q.0.1 (enumerated 1 q.0 h.peers q.1) e.0.0 e.0.1 p q.0.0 (get_member key_total q.0.1 e.0.0 e.0.1 e.1) e.2
 
-        row_stood : 3 ≤ j → (i : InstanceId) (y : Block) (p : Path) → Member (y, p) (entries (table h i)) → RowStood cs i y p.next_hop p.label
+        row_stood : 4 ≤ j → (i : InstanceId) (y : Block) (p : Path) → Member (y, p) (entries (table h i)) → RowStood cs i y p.next_hop p.label
         row_stood rank i y p m =
             let least : IsLeast y (paths_of h i) p = selected_least (paths_of h i) y p (get_member prefix_total (table h i) y p m) in
             subst (λ (y : Block). RowStood cs i y p.next_hop p.label) least.prefix_is
@@ -397,7 +420,7 @@ module _ (b : Checked) (ds : List Checked) (written : (c : Checked) → Member c
               | inl l ↦
                   let f = from_filter (has_target (map (target_of h.asn) (imports h.feed i))) p (own_paths h ++ peer_paths h) l in
                   let r = elim (in_either p (own_paths h) (peer_paths h) f.0) as (λ _. IsPath p) [ inl l ↦ own_stood (lower j rank) p l | inr r ↦ peer_stood rank p r ] in
-                  inl (r.0, imports_of_some h.feed feed_some i r.0 (target_from h.asn r.0 (imports h.feed i) p (r.1 ∙ ap (λ (n : ℕ). target_of n r.0 ∷ []) (sym asn_is)) f.1), r.2)
+                  inl (r.0, imports_of_some h.feed (feed_some (two_of_four j rank)) i r.0 (target_from h.asn r.0 (imports h.feed i) p (r.1 ∙ ap (λ (n : ℕ). target_of n r.0 ∷ []) (sym asn_is)) f.1), r.2)
               | inr l ↦
                   let f = from_filter (has_target (target_of h.asn i ∷ [])) p (reoriginated_paths h) l in
                   let r = reoriginated_stood (lower j rank) p f.0 in
@@ -407,7 +430,7 @@ module _ (b : Checked) (ds : List Checked) (written : (c : Checked) → Member c
                   ]
             ])
           where
-            lower : (j : ℕ) → 3 ≤ j → 2 ≤ j
+            lower : (j : ℕ) → 4 ≤ j → 3 ≤ j
             lower j h = omega (arith, h)
 
         to_agent : s.far.role ≡ Agent → (a : Told) → a.address ≡ address_in (agents_of x n) s.far.name → FairMap (stood cs asn (suc j)) (s.near.name, s.near.role) (s.far.name, s.far.role) (wanted_by_agent h a)
@@ -424,7 +447,7 @@ module _ (b : Checked) (ds : List Checked) (written : (c : Checked) → Member c
                   subst (λ (e : Key × Value). kind cs e.0 ≤ suc j → EntryStood cs asn (s.near.name, s.near.role) (s.far.name, s.far.role) e.0 e.1) r.2 (λ rank. row_stood (lower j rank) q.0 r.0.0 r.0.1 r.1)
             ]
           where
-            lower : (j : ℕ) → 4 ≤ suc j → 3 ≤ j
+            lower : (j : ℕ) → 5 ≤ suc j → 4 ≤ j
             lower j h = omega (arith, h)
 
             here_at : StoodAt cs s.far.name a.address
@@ -451,7 +474,7 @@ module _ (b : Checked) (ds : List Checked) (written : (c : Checked) → Member c
       own_at (t ∷ ts) f u (inr m) = own_at ts f.1 u m
 
       -- where the circuit that is published here stood
-      pub circuit_stood : (s : Session) → Member s own → s.near.role ≡ Controller → 2 ≤ j → (circuit : ℕ) (address : Addr) (label : LabelNo) → published_in h.agents circuit ≡ Some (led_by address label)
+      pub circuit_stood : (s : Session) → Member s own → s.near.role ≡ Controller → 3 ≤ j → (circuit : ℕ) (address : Addr) (label : LabelNo) → published_in h.agents circuit ≡ Some (led_by address label)
           → (name : Name) × StoodAt cs name address × HostStood cs name (circuit_instance_of circuit) (circuit_prefix circuit) label
       circuit_stood s among control rank circuit address label e =
           let a = publisher_at h.agents circuit address label e in
@@ -491,11 +514,11 @@ module _ (b : Checked) (ds : List Checked) (written : (c : Checked) → Member c
             slice_object (listed_by (node_named x.topology n))
             (λ m a. laid.listed n c.0 c.1 m (subst (λ (o : Option Node). Member m (listed_by o)) c.1 a)) k v i
 
-        publishes : 1 ≤ j → (k : LowKey) (v : LowValue) → Member (k, v) (slice_in_use (agent_holdings x n (views own))) → (a : Attachment) → as_attachment k v ≡ Some a → HostStood cs n a.instance a.prefix a.label
+        publishes : 2 ≤ j → (k : LowKey) (v : LowValue) → Member (k, v) (slice_in_use (agent_holdings x n (views own))) → (a : Attachment) → as_attachment k v ≡ Some a → HostStood cs n a.instance a.prefix a.label
         publishes rank k v i a e =
             let t = in_use k v i in
             let at = object_of t.0.near.held k v t.3 in
-            let o = t.1.some_held (Low k) (Object v) at in
+            let o = all_some cs j rank (t.0.far.name, t.0.far.role) (t.0.near.name, t.0.near.role) t.0.near.held t.1.some_held (Low k) (Object v) at in
             let there = attach_stood (t.0.far.name, t.0.far.role) (t.0.near.name, t.0.near.role) k v a e (t.1.far_role ∙ t.2) (t.1.near_role ∙ ap (role_of x) t.1.name ∙ is_agent) (t.1.held (Low k) (Object v) at rank) in
             record {
               config = o.0;
@@ -520,7 +543,7 @@ module _ (b : Checked) (ds : List Checked) (written : (c : Checked) → Member c
               | inr l ↦ let q = from_map subscription_of (pair k v) (needed_by es) l in subst (λ (e : Key × Value). kind cs e.0 ≤ suc j → EntryStood cs asn from to e.0 e.1) q.2 (λ _. tt)
             ]
           where
-            lower : (j : ℕ) → 2 ≤ suc j → 1 ≤ j
+            lower : (j : ℕ) → 3 ≤ suc j → 2 ≤ j
             lower j h = omega (arith, h)
 
       -- ---- each node

@@ -1,0 +1,3 @@
+-- The files of definitions, in the order in which they stand on each other.
+pub mod Kept
+pub mod Schedules

@@ -1,0 +1,2 @@
+-- The files of definitions, in the order in which they stand on each other.
+pub mod Recovery
