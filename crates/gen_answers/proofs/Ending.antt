@@ -17,8 +17,10 @@ use Rattle.net_machine.specs.RunningModel.Stands.{StandsFor}
 use Rattle.net_machine.specs.ScheduleLaws.Runs.{tied_moment}
 use Rattle.net_machine.proofs.ScheduleLaws.Placed.{as_compiled, isolated}
 use Rattle.run_ties.specs.Kept.{AreAlike, ties_in}
-use Rattle.net_machine.proofs.MachinePermissionLaws.Placed.{permitted}
-use Rattle.net_machine.proofs.MachineRevocationLaws.Placed.{revoked}
+use Rattle.net_machine.proofs.MachineMomentLaws.KeptPlaced.{uninterrupted}
+use Rattle.net_machine.proofs.MachineMomentLaws.AgainPlaced.{again}
+use Rattle.net_machine.proofs.MachineMomentLaws.PermissionPlaced.{permitted}
+use Rattle.net_machine.proofs.MachineMomentLaws.RevocationPlaced.{revoked}
 use Rattle.scenario_gen.specs.Scenario.{scenario}
 use Rattle.gen_answers.specs.declared.tally.Tally.{Tally}
 use Rattle.gen_answers.specs.Answers.{IsLeftOfScenario, TookSummary}
@@ -64,6 +66,8 @@ gen_promised n old new t valid forms is taken = record {
   isolated = isolated (opening n) (scenario_is_written n valid) (schedule n) forms;
   permitted = permitted (opening n) (scenario_is_written n valid) (schedule n) forms;
   revoked = revoked (opening n) (scenario_is_written n valid) (schedule n) forms;
+  uninterrupted = uninterrupted (opening n) (scenario_is_written n valid) (schedule n) forms;
+  again = again (opening n) (scenario_is_written n valid) (schedule n) forms;
   agree = packets_agree n valid;
 }
 

@@ -11,8 +11,10 @@ use Rattle.net_machine.specs.Taken.{HasTaken}
 use Rattle.net_machine.specs.ScheduleLaws.TiedCompiled.{AreAsCompiled}
 use Rattle.net_machine.specs.ScheduleLaws.Isolated.{IsIsolated}
 use Rattle.net_machine.specs.ScheduleLaws.Runs.{answers}
-use Rattle.net_machine.specs.MachinePermissionLaws.Schedules.{IsPermittedThroughout}
-use Rattle.net_machine.specs.MachineRevocationLaws.Schedules.{IsRevoked}
+use Rattle.net_machine.specs.MachineMomentLaws.KeptSchedules.{IsKeptThroughout}
+use Rattle.net_machine.specs.MachineMomentLaws.AgainSchedules.{IsAgainThroughout}
+use Rattle.net_machine.specs.MachineMomentLaws.PermissionSchedules.{IsPermittedThroughout}
+use Rattle.net_machine.specs.MachineMomentLaws.RevocationSchedules.{IsRevoked}
 use Rattle.gen_answers.specs.Agreed.{PacketsAgree}
 use Rattle.gen_answers.specs.Scheduled.{opening, schedule}
 use Rattle.gen_answers.specs.Generating.{summary_text}
@@ -28,12 +30,15 @@ pub record IsLeftOfScenario (n : ℕ) (left : Option NetState) : Type 0 where
   pub took : HasTaken (opening n) (schedule n) net
 
 -- what was taken is the summary of a scenario, whose answers are as compiled and isolated, let packets pass only as
--- configurations so far permitted, and two rounds after an edit let nothing through that its policies refuse: each of its
--- packets has the outcome that policies give
+-- configurations so far permitted, two rounds after an edit let nothing through that its policies refuse, while a change goes on
+-- deliver what all its configurations keep, and so many rounds later deliver it again: each of its packets has the outcome that
+-- policies give
 pub record TookSummary (n : ℕ) (old new : Option (List ℕ)) : Type 0 where
   pub taken : Appends old new (summary_text n)
   pub compiled : AreAsCompiled (opening n) (schedule n) (answers (opening n) (schedule n))
   pub isolated : IsIsolated (opening n) (schedule n) (answers (opening n) (schedule n))
   pub permitted : IsPermittedThroughout (opening n) (schedule n) (answers (opening n) (schedule n))
   pub revoked : IsRevoked (opening n) (schedule n) (answers (opening n) (schedule n))
+  pub uninterrupted : IsKeptThroughout (opening n) (schedule n) (answers (opening n) (schedule n))
+  pub again : IsAgainThroughout (opening n) (schedule n) (answers (opening n) (schedule n))
   pub agree : PacketsAgree n

@@ -37,5 +37,4 @@ pub mod RunningLaws
 pub mod RunningModel
 pub mod MachineLaws
 pub mod Taking
-pub mod MachineRevocationLaws
-pub mod MachinePermissionLaws
+pub mod MachineMomentLaws

@@ -30,15 +30,19 @@ use Rattle.running_nodes.specs.RunningModel.Steps.{fresh_seat}
 use Rattle.running_laws.proofs.Given.{given}
 use Rattle.running_laws.proofs.Started.{fresh_seats_stand}
 use Rattle.schedule_tied_answers.specs.declared.answer.TiedAnswer.{TiedAnswer}
-use Rattle.machine_revocation_laws.specs.ScheduleLaws.TiedCompiled.{EndsAtOnce, IsAsCompiled}
-use Rattle.machine_revocation_laws.specs.ScheduleLaws.Isolated.{DeliversSoFar, DeliversTied}
-use Rattle.machine_revocation_laws.specs.Schedules.{RevokedSoFar}
-use Rattle.machine_revocation_laws.proofs.Placed.{revoked_here}
-use Rattle.machine_permission_laws.specs.Schedules.{PermittedSoFar}
-use Rattle.machine_permission_laws.proofs.Placed.{permitted_here}
-use Rattle.machine_revocation_laws.specs.ScheduleLaws.Runs.{answer_tied, tied_moment}
-use Rattle.machine_revocation_laws.proofs.ScheduleLaws.Kept.{asked_with_ties, tied_more}
-use Rattle.machine_revocation_laws.proofs.ScheduleLaws.Moments.{compiled_here, ends_here, isolated_here, joined_here}
+use Rattle.machine_moment_laws.specs.ScheduleLaws.TiedCompiled.{EndsAtOnce, IsAsCompiled}
+use Rattle.machine_moment_laws.specs.ScheduleLaws.Isolated.{DeliversSoFar, DeliversTied}
+use Rattle.machine_moment_laws.specs.RevocationSchedules.{RevokedSoFar}
+use Rattle.machine_moment_laws.proofs.RevocationPlaced.{revoked_here}
+use Rattle.machine_moment_laws.specs.PermissionSchedules.{PermittedSoFar}
+use Rattle.machine_moment_laws.proofs.PermissionPlaced.{permitted_here}
+use Rattle.machine_moment_laws.specs.KeptSchedules.{KeptSoFar}
+use Rattle.machine_moment_laws.proofs.KeptPlaced.{uninterrupted_here}
+use Rattle.machine_moment_laws.specs.AgainSchedules.{AgainSoFar}
+use Rattle.machine_moment_laws.proofs.AgainPlaced.{again_here}
+use Rattle.machine_moment_laws.specs.ScheduleLaws.Runs.{answer_tied, tied_moment}
+use Rattle.machine_moment_laws.proofs.ScheduleLaws.Kept.{asked_with_ties, tied_more}
+use Rattle.machine_moment_laws.proofs.ScheduleLaws.Moments.{compiled_here, ends_here, isolated_here, joined_here}
 use Rattle.net_machine.specs.declared.ends.SessionEnds.{SessionEnds}
 use Rattle.net_machine.specs.Running.{IsRunning}
 use Rattle.net_machine.specs.Seating.{AreLong, AreSeated, IsConfigured, ends_of, order_among, order_of}
@@ -197,6 +201,12 @@ module _ (x : Checked) (es : List Event) (ties : Kept) (seats : List Seat) (orde
 
     pub step_permitted : PermittedSoFar x es e answer
     step_permitted = subst (PermittedSoFar x es e) (sym step_answers) (permitted_here x r.written es r.forms e)
+
+    pub step_uninterrupted : KeptSoFar x es e answer
+    step_uninterrupted = subst (KeptSoFar x es e) (sym step_answers) (uninterrupted_here x r.written es r.forms e)
+
+    pub step_again : AgainSoFar x es e answer
+    step_again = subst (AgainSoFar x es e) (sym step_answers) (again_here x r.written es r.forms e)
 
     pub step_joined : DeliversTied (ties_in ties) e answer
     step_joined =

@@ -15,10 +15,9 @@ pub mod Shown
 pub mod Running
 pub mod Codes
 pub mod Looking
-pub use Rattle.machine_revocation_laws.specs.ScheduleLaws.Runs
+pub use Rattle.machine_moment_laws.specs.ScheduleLaws.Runs
 pub mod ScheduleLaws
 pub mod RunningLaws
 pub mod RunningModel
 pub mod MachineLaws
-pub mod MachineRevocationLaws
-pub mod MachinePermissionLaws
+pub mod MachineMomentLaws

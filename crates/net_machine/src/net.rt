@@ -13,11 +13,13 @@ ghost use Rattle.running_nodes.specs.RunningModel.Seats.{whos};
 ghost use Rattle.running_nodes.specs.RunningModel.Stands.{StandsFor, message_size};
 ghost use Rattle.running_nodes.specs.RunningModel.Steps.{fresh_seat};
 ghost use Rattle.schedule_tied_answers.specs.Answers.{OfAnswer};
-ghost use Rattle.machine_revocation_laws.specs.ScheduleLaws.TiedCompiled.{EndsAtOnce, IsAsCompiled};
-ghost use Rattle.machine_revocation_laws.specs.ScheduleLaws.Isolated.{DeliversSoFar, DeliversTied};
-ghost use Rattle.machine_revocation_laws.specs.Schedules.{RevokedSoFar};
-ghost use Rattle.machine_permission_laws.specs.Schedules.{PermittedSoFar};
-ghost use Rattle.machine_revocation_laws.specs.ScheduleLaws.Runs.{answer_tied, tied_moment};
+ghost use Rattle.machine_moment_laws.specs.ScheduleLaws.TiedCompiled.{EndsAtOnce, IsAsCompiled};
+ghost use Rattle.machine_moment_laws.specs.ScheduleLaws.Isolated.{DeliversSoFar, DeliversTied};
+ghost use Rattle.machine_moment_laws.specs.RevocationSchedules.{RevokedSoFar};
+ghost use Rattle.machine_moment_laws.specs.PermissionSchedules.{PermittedSoFar};
+ghost use Rattle.machine_moment_laws.specs.KeptSchedules.{KeptSoFar};
+ghost use Rattle.machine_moment_laws.specs.AgainSchedules.{AgainSoFar};
+ghost use Rattle.machine_moment_laws.specs.ScheduleLaws.Runs.{answer_tied, tied_moment};
 ghost use Rattle.net_machine.specs.Shown.{ShowsCompiled};
 ghost use Rattle.net_machine.specs.Tying.{OfTie};
 
@@ -142,6 +144,12 @@ impl Net {
 
         // What an edit took away, two rounds later.
         ensures revoked { IfOk result (RevokedSoFar self.old.opening self.old.events event) }
+
+        // What all configurations of a change keep, while the change goes on.
+        ensures uninterrupted { IfOk result (KeptSoFar self.old.opening self.old.events event) }
+
+        // What it interrupted, so many rounds later.
+        ensures again { IfOk result (AgainSoFar self.old.opening self.old.events event) }
 
         ensures opening { self.new.opening ≡ self.old.opening }
         ensures events { OnOk result (self.new.events ≡ self.old.events ++ event ∷ []) }

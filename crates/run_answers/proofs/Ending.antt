@@ -17,8 +17,10 @@ use Rattle.net_machine.specs.NetState.{NetState}
 use Rattle.net_machine.specs.Taken.{HasTaken}
 use Rattle.net_machine.proofs.ScheduleLaws.Placed.{as_compiled, isolated}
 use Rattle.machine_model.specs.Setup.{opening as opening_setup}
-use Rattle.net_machine.proofs.MachinePermissionLaws.Placed.{permitted}
-use Rattle.net_machine.proofs.MachineRevocationLaws.Placed.{revoked}
+use Rattle.net_machine.proofs.MachineMomentLaws.KeptPlaced.{uninterrupted}
+use Rattle.net_machine.proofs.MachineMomentLaws.AgainPlaced.{again}
+use Rattle.net_machine.proofs.MachineMomentLaws.PermissionPlaced.{permitted}
+use Rattle.net_machine.proofs.MachineMomentLaws.RevocationPlaced.{revoked}
 use Rattle.run_answers.specs.Networks.{AreReadAs, IsLeftOf, TookAnswers, input_of}
 use Rattle.run_answers.specs.Schedules.{run_text}
 
@@ -46,6 +48,8 @@ run_promised octets old new x es took read valid forms same taken = record {
   isolated = isolated x valid es forms;
   permitted = permitted x valid es forms;
   revoked = revoked x valid es forms;
+  uninterrupted = uninterrupted x valid es forms;
+  again = again x valid es forms;
 }
 
 -- each way in which a run ends

@@ -15,8 +15,10 @@ use Rattle.ov_json.specs.Json.{json_of}
 use Rattle.net_machine.specs.ScheduleLaws.TiedCompiled.{AreAsCompiled}
 use Rattle.net_machine.specs.ScheduleLaws.Isolated.{IsIsolated}
 use Rattle.net_machine.specs.ScheduleLaws.Runs.{answers}
-use Rattle.net_machine.specs.MachinePermissionLaws.Schedules.{IsPermittedThroughout}
-use Rattle.net_machine.specs.MachineRevocationLaws.Schedules.{IsRevoked}
+use Rattle.net_machine.specs.MachineMomentLaws.KeptSchedules.{IsKeptThroughout}
+use Rattle.net_machine.specs.MachineMomentLaws.AgainSchedules.{IsAgainThroughout}
+use Rattle.net_machine.specs.MachineMomentLaws.PermissionSchedules.{IsPermittedThroughout}
+use Rattle.net_machine.specs.MachineMomentLaws.RevocationSchedules.{IsRevoked}
 use Rattle.run_answers.specs.Schedules.{run_text}
 
 -- the opening configuration of an input, with its topology
@@ -42,8 +44,9 @@ pub record IsLeftOf (octets : List ℕ) (left : Option NetState) : Type 0 where
   pub took : HasTaken (opening_of input) input.events net
 
 -- what was taken is the lines of what the events answer. These answers are as compiled at settled moments; at every moment
--- they are isolated, and packets pass only as configurations so far permitted; and two rounds after an edit they let nothing
--- through that its policies refuse
+-- they are isolated, and packets pass only as configurations so far permitted; two rounds after an edit they let nothing
+-- through that its policies refuse; while a change goes on they deliver what all its configurations keep; and so many rounds
+-- later they deliver it again
 pub record TookAnswers (octets : List ℕ) (old new : Option (List ℕ)) : Type 0 where
   pub input : RunInput
   pub read : AreReadAs octets input
@@ -52,3 +55,5 @@ pub record TookAnswers (octets : List ℕ) (old new : Option (List ℕ)) : Type 
   pub isolated : IsIsolated (opening_of input) input.events (answers (opening_of input) input.events)
   pub permitted : IsPermittedThroughout (opening_of input) input.events (answers (opening_of input) input.events)
   pub revoked : IsRevoked (opening_of input) input.events (answers (opening_of input) input.events)
+  pub uninterrupted : IsKeptThroughout (opening_of input) input.events (answers (opening_of input) input.events)
+  pub again : IsAgainThroughout (opening_of input) input.events (answers (opening_of input) input.events)

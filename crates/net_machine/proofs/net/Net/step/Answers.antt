@@ -2,16 +2,18 @@ use Rattle.std.proofs.Common.{◌∙◌, ap, subst}
 use Rattle.std.specs.Prelude.{◌≡◌}
 use Rattle.run_ties.specs.Kept.{ties_in}
 use Rattle.running_nodes.specs.MachineModel.Events.{event_of}
-use Rattle.machine_revocation_laws.specs.ScheduleLaws.TiedCompiled.{EndsAtOnce, IsAsCompiled}
-use Rattle.machine_revocation_laws.specs.ScheduleLaws.Isolated.{DeliversSoFar, DeliversTied}
-use Rattle.machine_revocation_laws.specs.Schedules.{RevokedSoFar}
-use Rattle.machine_permission_laws.specs.Schedules.{PermittedSoFar}
-use Rattle.machine_revocation_laws.specs.ScheduleLaws.Runs.{answer_tied, tied_moment}
-use Rattle.machine_revocation_laws.proofs.ScheduleLaws.Moments.{tied_rounds}
+use Rattle.machine_moment_laws.specs.ScheduleLaws.TiedCompiled.{EndsAtOnce, IsAsCompiled}
+use Rattle.machine_moment_laws.specs.ScheduleLaws.Isolated.{DeliversSoFar, DeliversTied}
+use Rattle.machine_moment_laws.specs.RevocationSchedules.{RevokedSoFar}
+use Rattle.machine_moment_laws.specs.PermissionSchedules.{PermittedSoFar}
+use Rattle.machine_moment_laws.specs.KeptSchedules.{KeptSoFar}
+use Rattle.machine_moment_laws.specs.AgainSchedules.{AgainSoFar}
+use Rattle.machine_moment_laws.specs.ScheduleLaws.Runs.{answer_tied, tied_moment}
+use Rattle.machine_moment_laws.proofs.ScheduleLaws.Moments.{tied_rounds}
 use Rattle.net_machine.specs.NetState.{NetState}
 use Rattle.net_machine.specs.Tying.{OfTie}
 use Rattle.net_machine.proofs.Ran.{run_can, run_configured, run_seated, step_answers, step_compiled, step_ends, step_isolated, step_revoked}
-use Rattle.net_machine.proofs.Ran.{step_joined, step_permitted, step_runs, step_unchanged}
+use Rattle.net_machine.proofs.Ran.{step_again, step_joined, step_permitted, step_runs, step_unchanged, step_uninterrupted}
 use Rattle.net_machine.proofs.net.Net.step.Goals as goal
 
 pub happen_tied-requires-clause-configured : goal.happen_tied-requires-clause-configured
@@ -122,6 +124,22 @@ returns-clause-permitted c =
     let n = c.self.inside in
     subst (λ (s : NetState). PermittedSoFar s.opening s.events c.args.event c.in_ok-answer.answer) c.self.view_is
     (step_permitted n.opening n.events n.ties n.nodes.seats n.order.items (c.self.invariant c.if-self.false).0
+    c.args.event c.in_ok-answer.answer c.happen_tied.new.ties c.happen_tied.new.nodes.seats c.happen_tied.new.order.items c.requires.form
+    c.in_ok-answer.ensures.happens c.in_ok-answer.ensures.orders)
+
+pub returns-clause-uninterrupted : goal.returns-clause-uninterrupted
+returns-clause-uninterrupted c =
+    let n = c.self.inside in
+    subst (λ (s : NetState). KeptSoFar s.opening s.events c.args.event c.in_ok-answer.answer) c.self.view_is
+    (step_uninterrupted n.opening n.events n.ties n.nodes.seats n.order.items (c.self.invariant c.if-self.false).0
+    c.args.event c.in_ok-answer.answer c.happen_tied.new.ties c.happen_tied.new.nodes.seats c.happen_tied.new.order.items c.requires.form
+    c.in_ok-answer.ensures.happens c.in_ok-answer.ensures.orders)
+
+pub returns-clause-again : goal.returns-clause-again
+returns-clause-again c =
+    let n = c.self.inside in
+    subst (λ (s : NetState). AgainSoFar s.opening s.events c.args.event c.in_ok-answer.answer) c.self.view_is
+    (step_again n.opening n.events n.ties n.nodes.seats n.order.items (c.self.invariant c.if-self.false).0
     c.args.event c.in_ok-answer.answer c.happen_tied.new.ties c.happen_tied.new.nodes.seats c.happen_tied.new.order.items c.requires.form
     c.in_ok-answer.ensures.happens c.in_ok-answer.ensures.orders)
 

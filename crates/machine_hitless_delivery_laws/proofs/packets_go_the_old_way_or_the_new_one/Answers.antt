@@ -1,5 +1,0 @@
-use Rattle.machine_hitless_delivery_laws.proofs.Interrupting.{goes_by_either}
-use Rattle.machine_hitless_delivery_laws.proofs.packets_go_the_old_way_or_the_new_one.Goals as goal
-
-pub returns : goal.returns
-returns c = goes_by_either

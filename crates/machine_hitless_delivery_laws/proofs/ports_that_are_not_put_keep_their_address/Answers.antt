@@ -1,7 +1,0 @@
-use Rattle.hitless_laws.proofs.ByKind.{parts_of_fault}
-use Rattle.machine_hitless_delivery_laws.proofs.Addresses.{not_put}
-use Rattle.machine_hitless_delivery_laws.proofs.Made.{valid}
-use Rattle.machine_hitless_delivery_laws.proofs.ports_that_are_not_put_keep_their_address.Goals as goal
-
-pub returns : goal.returns
-returns c = λ x e number w accepted none. not_put x e (valid x w) (parts_of_fault e x accepted).0 number none

@@ -1,5 +1,0 @@
-use Rattle.machine_hitless_laws.proofs.LedAlone.{nothing_else_leads}
-use Rattle.machine_hitless_laws.proofs.common_routes_lead_alone.Goals as goal
-
-pub returns : goal.returns
-returns c = nothing_else_leads

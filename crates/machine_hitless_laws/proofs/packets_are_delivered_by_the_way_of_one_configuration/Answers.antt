@@ -1,5 +1,0 @@
-use Rattle.machine_hitless_laws.proofs.ByOne.{delivered_by_one}
-use Rattle.machine_hitless_laws.proofs.packets_are_delivered_by_the_way_of_one_configuration.Goals as goal
-
-pub returns : goal.returns
-returns c = delivered_by_one

@@ -1,5 +1,0 @@
-use Rattle.machine_hitless_laws.proofs.Starting.{start_where_common}
-use Rattle.machine_hitless_laws.proofs.packets_start_where_common_ports_are.Goals as goal
-
-pub returns : goal.returns
-returns c = start_where_common

@@ -1,5 +1,0 @@
-use Rattle.machine_hitless_laws.proofs.Admitting.{verdicts_are_of_some}
-use Rattle.machine_hitless_laws.proofs.verdicts_are_of_some_configuration.Goals as goal
-
-pub returns : goal.returns
-returns c = verdicts_are_of_some

@@ -1,0 +1,56 @@
+-- The same of the answers of a schedule, place by place, where ties are kept.
+use Rattle.std.specs.Prelude.{◌≡◌, ◌≤◌, ℕ, ◌+◌, List, [], ◌∷◌, drop, length, map, take}
+use Rattle.std.specs.List.{AllByRecursion}
+use Rattle.ov_types.specs.declared.numbers.PortNo.{PortNo}
+use Rattle.ov_types.specs.declared.numbers.ServiceNo.{ServiceNo}
+use Rattle.ov_types.specs.declared.packet.Outcome.{Outcome}
+use Rattle.ov_types.specs.declared.packet.Outcome.TheVariants.{Delivered}
+use Rattle.ov_types.specs.declared.packet.Packet.{Packet}
+use Rattle.config_types.specs.declared.event.Event.{Event}
+use Rattle.run_ties.specs.ConfigCheck.Checked.{Checked}
+use Rattle.schedule_tied_answers.specs.declared.answer.TiedAnswer.{TiedAnswer}
+use Rattle.reach_plain.specs.Reachability.{reachability}
+use Rattle.machine_model.specs.Events.{event_of}
+use Rattle.machine_laws.specs.Refusing.{kept_events}
+use Rattle.schedule_laws.specs.Isolated.{StandsAt}
+use Rattle.schedule_laws.specs.RunningModel.Stands.{message_size}
+use Rattle.schedule_laws.specs.Runs.{tied_moment}
+use Rattle.hitless_laws.specs.Keeping.{Keep}
+use Rattle.hitless_laws.specs.Ways.{Way}
+use Rattle.machine_moment_laws.specs.Windows.{IsOfWindow}
+use Rattle.machine_moment_laws.specs.Kept.{HasOneAddress, IsDeliveredBy, IsInHand}
+use Rattle.machine_moment_laws.specs.KeptSchedules.{OfOutcome, configurations_since}
+use Rattle.machine_moment_laws.specs.Recovery.{AreUp, rounds_in}
+use Rattle.machine_moment_laws.specs.Again.{VisitAtMost}
+
+-- at a place of these events all sessions were up, and since then no session was lost by itself, no node restarted, and no
+-- send was broken
+pub record GoesOnSince (x : Checked) (since : ℕ) (es : List Event) : Type 0 where
+  pub begins : AreUp (tied_moment x (take since es)).network
+  pub goes_on : AllByRecursion IsOfWindow (map event_of (drop since es))
+
+-- the rounds since then that began while no session was down
+abbrev pub rounds_since : Checked → ℕ → List Event → ℕ
+rounds_since x since es =
+    rounds_in message_size (tied_moment x (take since es)).network
+    (kept_events message_size (tied_moment x (take since es)) (map event_of (drop since es)))
+
+-- so many rounds later a packet is delivered that these configurations keep to a port; and all that one delivers, where it is
+-- alone
+pub record DeliversAgainSince (rounds : ℕ) (cs : List Checked) (p : Packet) (o : Outcome) : Type 0 where
+  pub kept : (number : PortNo) (ways : List Way) → Keep cs p number ways → HasOneAddress cs p.source
+      → IsInHand cs p number ways → (most : ℕ) → VisitAtMost most cs p number ways → most + 5 ≤ rounds
+      → IsDeliveredBy cs p number ways o
+  pub by_one : (c : Checked) → cs ≡ c ∷ [] → (number : PortNo) (services : List ServiceNo)
+      → reachability c.config p ≡ Delivered number services → length services + 5 ≤ rounds → o ≡ Delivered number services
+
+-- after these events, since each such place
+abbrev pub AgainSoFar : Checked → List Event → Event → TiedAnswer → Type 0
+AgainSoFar x es e a =
+    (since : ℕ) → GoesOnSince x since es
+    → OfOutcome (DeliversAgainSince (rounds_since x since es) (configurations_since x since es)) e a
+
+-- at every place of a schedule
+abbrev pub IsAgainThroughout : Checked → List Event → List TiedAnswer → Type 0
+IsAgainThroughout x es answered =
+    (place : ℕ) (e : Event) (a : TiedAnswer) → StandsAt es answered place e a → AgainSoFar x (take place es) e a

@@ -1,0 +1,52 @@
+//! What all configurations of a change have in common stays while the change goes on, in any order of deliveries. Laws
+//! alone.
+
+ghost use Rattle.machine_moment_laws.specs.Arriving.{DeliversByOne, GoesTheCommonWay, StartsWhereCommon};
+ghost use Rattle.machine_moment_laws.specs.Arriving.{VerdictsAreOfSome};
+ghost use Rattle.machine_moment_laws.specs.Common.{AccessListsAreOfSome, NothingElseLeads, WhatIsCommonStays};
+ghost use Rattle.machine_moment_laws.specs.Windows.{AtMomentsOfWindows};
+
+/// At every moment of every window each access list that an agent has in use is that of a configuration of the window so
+/// far.
+pub fn access_lists_are_of_some_configuration()
+    ensures { AtMomentsOfWindows AccessListsAreOfSome }
+{}
+
+/// At every moment of every window, in any order of deliveries: each agent whose compute node stands the same in all
+/// configurations of the window so far has what these configurations have in common compiles to. It has each label, the key
+/// of each access list, and each route, with the very compute node and label that it leads to: but for routes to an address
+/// that changed hands between networks which the instance imports.
+pub fn what_is_common_stays()
+    ensures { AtMomentsOfWindows WhatIsCommonStays }
+{}
+
+/// In no instance, of a network or of a place of a use, has it another route that contains an address which such a route
+/// contains: so the longest prefix there is that of the common route.
+pub fn common_routes_lead_alone()
+    ensures { AtMomentsOfWindows NothingElseLeads }
+{}
+
+/// So a packet that is looked up in an instance, at any moment of any window, goes the whole way that the common part leads it
+/// from there: through just the services of that way, in order, to the port at its end, whatever is under way meanwhile.
+pub fn packets_go_the_common_way()
+    ensures { AtMomentsOfWindows GoesTheCommonWay }
+{}
+
+/// The verdict of an agent on a packet that heads from one network to another in all configurations of the window so far, and
+/// to no third, is that of the access list which one of these configurations has between the two: never a mixture of several,
+/// and never that the packet has no destination.
+pub fn verdicts_are_of_some_configuration()
+    ensures { AtMomentsOfWindows VerdictsAreOfSome }
+{}
+
+/// A packet whose source port is common starts at the agent of its compute node, in its network, whichever agents have heard of
+/// the port meanwhile.
+pub fn packets_start_where_common_ports_are()
+    ensures { AtMomentsOfWindows StartsWhereCommon }
+{}
+
+/// So a packet whose source port is common, and that each configuration of the window so far leads along a common way to one
+/// port, is delivered there, by the way of one of them, through just its services: never by a mixture of several.
+pub fn packets_are_delivered_by_the_way_of_one_configuration()
+    ensures { AtMomentsOfWindows DeliversByOne }
+{}

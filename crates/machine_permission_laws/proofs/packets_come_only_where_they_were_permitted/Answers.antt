@@ -1,5 +1,0 @@
-use Rattle.machine_permission_laws.proofs.Permitted.{permitted_somehow}
-use Rattle.machine_permission_laws.proofs.packets_come_only_where_they_were_permitted.Goals as goal
-
-pub returns : goal.returns
-returns c = permitted_somehow

@@ -1,5 +1,0 @@
-use Rattle.machine_recovery_laws.proofs.Back.{nothing_else_leads}
-use Rattle.machine_recovery_laws.proofs.common_routes_lead_alone_after_five_rounds.Goals as goal
-
-pub returns : goal.returns
-returns c = nothing_else_leads

@@ -1,5 +1,0 @@
-use Rattle.machine_recovery_laws.proofs.Back.{delivered_again}
-use Rattle.machine_recovery_laws.proofs.packets_are_delivered_again.Goals as goal
-
-pub returns : goal.returns
-returns c = delivered_again

@@ -1,5 +1,0 @@
-use Rattle.machine_revocation_laws.proofs.Feeds.{feeds_are_present}
-use Rattle.machine_revocation_laws.proofs.feeds_are_present_after_one_round.Goals as goal
-
-pub returns : goal.returns
-returns c = feeds_are_present

@@ -1,5 +1,0 @@
-use Rattle.machine_revocation_laws.proofs.Revoked.{refused_packets_are_dropped}
-use Rattle.machine_revocation_laws.proofs.refused_packets_are_dropped_after_two_rounds.Goals as goal
-
-pub returns : goal.returns
-returns c = refused_packets_are_dropped

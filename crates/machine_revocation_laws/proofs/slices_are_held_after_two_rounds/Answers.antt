@@ -1,5 +1,0 @@
-use Rattle.machine_revocation_laws.proofs.Revoked.{present_slices_are_held}
-use Rattle.machine_revocation_laws.proofs.slices_are_held_after_two_rounds.Goals as goal
-
-pub returns : goal.returns
-returns c = present_slices_are_held

@@ -1,5 +1,0 @@
-use Rattle.machine_revocation_laws.proofs.SlicesTold.{slices_are_told}
-use Rattle.machine_revocation_laws.proofs.slices_are_told.Goals as goal
-
-pub returns : goal.returns
-returns c = slices_are_told
