@@ -1,27 +1,30 @@
-# make                    builds the program unproved, with all its checks, to out/overlay-unproved
-# make prove              passes the gate: each proof, edit, test and program; the proved program is crates/overlay/out/overlay
-# make test               runs the scripts outside the gate on the program that is built, the proved one where both are
-# make install PREFIX=..  puts the program that is built, its manual page, the schema and the examples (/usr/local if not given)
+# make                    builds overlay and inspect unproved, with all their checks, to out/overlay-unproved and out/inspect-unproved
+# make prove              passes the gate: each proof, edit, test and program; the proved programs are crates/overlay/out/overlay
+#                         and crates/inspect/out/inspect
+# make test               runs the scripts outside the gate on the programs that are built, the proved ones where both are
+# make install PREFIX=..  puts the programs that are built, their manual pages, the schema and the examples (/usr/local if not given)
 
 PREFIX = /usr/local
 DESTDIR =
-UNPROVED = out/overlay-unproved
-PROVED = crates/overlay/out/overlay
+PROGRAMS = overlay inspect
+UNPROVED = $(PROGRAMS:%=out/%-unproved)
 SOURCES := crates.txt $(shell find crates -path '*/src/*' -name '*.rt')
+# the proved program of a name where it is built, else the unproved one
+built = $(if $(wildcard crates/$(1)/out/$(1)),crates/$(1)/out/$(1),out/$(1)-unproved)
 
 .PHONY: all prove test install clean
 
 all: $(UNPROVED)
 
-$(UNPROVED): $(SOURCES) tools/build_unproved.py
-	tools/build_unproved.py $@
+out/%-unproved: $(SOURCES) tools/build_unproved.py
+	tools/build_unproved.py --program $* $@
 
 prove:
 	.ci/run
 	tools/install.py --record
 
-test: $(if $(wildcard $(PROVED)),,$(UNPROVED))
-	tests/all.py $(if $(wildcard $(PROVED)),$(PROVED),$(UNPROVED))
+test: $(foreach it,$(PROGRAMS),$(filter out/%,$(call built,$(it))))
+	tests/all.py $(foreach it,$(PROGRAMS),$(call built,$(it)))
 
 install:
 	tools/install.py --destdir '$(DESTDIR)' '$(PREFIX)'

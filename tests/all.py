@@ -1,9 +1,9 @@
 #!/usr/bin/env python3
-"""Runs the scripts outside the gate on a built program, one after the other: all.py PROGRAM [NAME ..]
+"""Runs the scripts outside the gate on the built programs, one after the other: all.py OVERLAY INSPECT [NAME ..]
 
 They are those of docs/TESTS.md that prove nothing; with names only those whose name contains one of them. Behind each stands how
 it ended and how many seconds it took. One for which something is not there is left out, and said to be. Needs Python 3.8 and what
-each needs. Ends with status 1 where one ended with another status than 0, and with 2 where there is no such program.
+each needs. Ends with status 1 where one ended with another status than 0, and with 2 where a program is not there.
 """
 import importlib.util
 import os
@@ -19,7 +19,7 @@ COMMANDS = {"cookbook.py": ["bash", "cut", "diff", "grep", "jq", "sed", "uniq", 
 MODULES = {"schema.py": ["jsonschema"]}
 
 
-def calls(program):
+def calls(program, inspect):
     """Each script with its words."""
     lines = [f"{HERE}/{name}.jsonl" for name in CASES]
     yield "schedules.py", [program]
@@ -27,9 +27,12 @@ def calls(program):
     yield "ties.py", [f"{HERE}/schedules.jsonl"]
     yield "changes.py", [program]
     yield from (("cases.py", [program, line]) for line in lines)
-    for name in ("cookbook", "schema", "pictures", "scenarios", "statuses", "rehearsals", "installs", "captures", "forms", "exports",
+    yield "schema.py", [program, inspect]
+    for name in ("cookbook", "pictures", "scenarios", "statuses", "rehearsals", "installs", "captures", "forms", "exports",
                  "allocations"):
         yield f"{name}.py", [program]
+    yield from ((f"inspect_{it}.py", [inspect]) for it in ("ways", "unused"))
+    yield from ((f"inspect_{it}.py", [inspect, program]) for it in ("diff", "expect"))
     yield "shorts.py", []
     yield "ways.py", []
     yield "pages.py", []
@@ -42,12 +45,13 @@ def lacks(name):
         [it for it in MODULES.get(name, []) if not importlib.util.find_spec(it)]
 
 
-def main(program, names):
-    if not os.path.isfile(program):
-        print(f"all.py: {program} is no file", file=sys.stderr)
-        return 2
+def main(program, inspect, names):
+    for it in (program, inspect):
+        if not os.path.isfile(it):
+            print(f"all.py: {it} is no file", file=sys.stderr)
+            return 2
     failed = 0
-    for name, words in calls(os.path.abspath(program)):
+    for name, words in calls(os.path.abspath(program), os.path.abspath(inspect)):
         told = " ".join([name, *(os.path.relpath(it, HERE) for it in words if it.endswith(".jsonl"))])
         if names and not any(it in told for it in names):
             continue
@@ -62,6 +66,6 @@ def main(program, names):
 
 
 if __name__ == "__main__":
-    if len(sys.argv) < 2 or sys.argv[1] in ("-h", "--help"):
+    if len(sys.argv) < 3 or sys.argv[1] in ("-h", "--help"):
         sys.exit(__doc__)
-    sys.exit(main(sys.argv[1], sys.argv[2:]))
+    sys.exit(main(sys.argv[1], sys.argv[2], sys.argv[3:]))

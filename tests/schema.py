@@ -1,5 +1,5 @@
 #!/usr/bin/env python3
-"""Compares docs/overlay.schema.json with what the built program answers of documents, and says where they disagree.
+"""Compares docs/overlay.schema.json with what the built programs answer of documents, and says where they disagree.
 
 A document that the schema refuses is to be answered `bad document`, and one that is answered `bad document` is to be refused
 by the schema at the place that the program names, unless the fault is one that a schema cannot say: a number of another
@@ -10,9 +10,9 @@ The documents are those of examples/, each for every command; those of tests/*.j
 of each command each part in turn is left out, joined by another member, and put in place by values of every kind and by both
 sides of each bound.
 
-usage: tests/schema.py PROGRAM [DOCUMENTS ..]
+usage: tests/schema.py OVERLAY INSPECT [DOCUMENTS ..]
 
-PROGRAM is the built `overlay`. With DOCUMENTS only these are compared, each a file, for every command, or a folder, in which
+OVERLAY and INSPECT are the built programs. With DOCUMENTS only these are compared, each a file, for every command, or a folder, in which
 NAME.in is a document and NAME.args the command. Documents of more than 1,000,000 octets are left out, and so are commands
 that have no definition in the schema. Needs Python 3.8 and python3-jsonschema, 4.0 or later. Ends with status 1 where the two
 disagree.
@@ -30,6 +30,7 @@ import jsonschema
 TOP = pathlib.Path(__file__).resolve().parent.parent
 SCHEMA = json.loads((TOP / "docs" / "overlay.schema.json").read_text(encoding="utf-8"))
 COMMANDS = [choice["$ref"].rpartition("/")[2] for choice in SCHEMA["anyOf"]]
+OF_INSPECT = ("expect",)  # the commands of inspect that have a form of their own
 LARGEST = 1_000_000
 SECONDS = 120
 
@@ -95,6 +96,9 @@ EVENTS = [
 ]
 
 
+EXPECTED = ["dropped denied", {"port": 2, "services": [7]}]  # of a packet
+
+
 def whole(spelled):
     """A number without fraction and exponent, as the program reads it."""
     return float(spelled) if spelled == "-0" or len(spelled) > 25 else int(spelled)
@@ -142,10 +146,12 @@ def places(errors):
         yield from places(error.context)
 
 
-def answer(program, command, text):
+def answer(programs, command, text):
     """The status of a run, or None where it takes long, and of a bad document the path, the kind, and what is said to people."""
+    overlay, inspect = programs
+    words = [inspect, command, "-"] if command in OF_INSPECT else [overlay, command]
     try:
-        run = subprocess.run([program, command], input=text, capture_output=True, timeout=SECONDS)
+        run = subprocess.run(words, input=text, capture_output=True, timeout=SECONDS)
     except subprocess.TimeoutExpired:
         return None, "", "", b""
     if run.returncode != 6:
@@ -185,12 +191,12 @@ def unsaid(command, document, path, kind):
     return None
 
 
-def verdict(program, validator, command, text):
+def verdict(programs, validator, command, text):
     """What the two say of a document, and where they disagree."""
     if len(text) > LARGEST:
         return "left out", None
-    status, path, kind, said = answer(program, command, text)
-    if status not in (0, 6, 7):
+    status, path, kind, said = answer(programs, command, text)
+    if status not in (0, 1, 6, 7):
         return f"answered with status {status}" if status else f"without an answer in {SECONDS} seconds", None
     try:
         document = read(text)
@@ -259,6 +265,10 @@ def example(name):
     return read((TOP / "examples" / name).read_bytes())
 
 
+def expecting(packet, what):
+    return {**packet, "expect": what}
+
+
 def made():
     """The documents that are made here."""
     schedule, scale, log, replies = (example(f"{name}.json") for name in ("schedule", "scale", "restart", "replies"))
@@ -266,6 +276,7 @@ def made():
     yield from changed("run", {**schedule, "events": EVENTS}, seen)
     yield from changed("scale", scale, seen)
     yield from changed("reach", {**pair, "packets": scale["packets"]}, seen)
+    yield from changed("expect", {**pair, "packets": [*map(expecting, scale["packets"], EXPECTED)]}, seen)
     yield from changed("compile", pair, seen)
     yield from changed("flows", replies, seen)
     yield from changed("graceful", {"events": ["expired", *log["events"]]}, seen)
@@ -291,14 +302,14 @@ def given(paths):
                 yield f"{path.name} as {command}", command, path.read_bytes()
 
 
-def main(program, paths):
+def main(programs, paths):
     kinds, counts = validators(), collections.Counter()
     for documents in (given(paths),) if paths else (shipped(), made()):
         for name, command, text in documents:
             if command not in kinds:
                 counts["of a command without a definition"] += 1
                 continue
-            said, wrong = verdict(program, kinds[command], command, text)
+            said, wrong = verdict(programs, kinds[command], command, text)
             counts[said] += 1
             if wrong:
                 print(f"{name} {wrong}", flush=True)
@@ -309,6 +320,6 @@ def main(program, paths):
 
 
 if __name__ == "__main__":
-    if len(sys.argv) < 2:
+    if len(sys.argv) < 3:
         sys.exit(__doc__)
-    sys.exit(main(sys.argv[1], sys.argv[2:]))
+    sys.exit(main(sys.argv[1:3], sys.argv[3:]))

@@ -1,19 +1,20 @@
 #!/usr/bin/env python3
-"""Installs the program that is built, with its manual page, the schema and the examples; `make install` calls it.
+"""Installs the programs that are built, with their manual pages, the schema and the examples; `make install` calls it.
 
 usage: tools/install.py [--destdir DIR] PREFIX
        tools/install.py --record
 
-The proved program, crates/overlay/out/overlay, is taken where it is there, and else the unproved one, out/overlay-unproved. To
-DIR/PREFIX come bin/overlay, bin/overlay.made, share/man/man1/overlay.1, and in share/overlay the schema and the examples.
+Of overlay and of inspect the proved program, crates/NAME/out/NAME, is taken where it is there, and else the unproved one,
+out/NAME-unproved. To DIR/PREFIX come bin/NAME, bin/NAME.made, share/man/man1/NAME.1, and in share/overlay the schema and the
+examples. Without overlay nothing is installed; without inspect only overlay.
 
-bin/overlay.made has a line each: the commit, the kit, `proved` or `not proved`, and the sum of the program. tools/build_unproved.py
-writes it beside the unproved program, and `make prove` by --record beside the proved one. Where no such file is there, or its sum
+bin/NAME.made has a line each: the commit, the kit, `proved` or `not proved`, and the sum of the program. tools/build_unproved.py
+writes it beside an unproved program, and `make prove` by --record beside the proved ones. Where no such file is there, or its sum
 is of another program, the same is asked of the files: the commit is that of the present sources if none is newer than the program,
 the kit is that of the path, and the program is proved if the kit says so by what it left beside it (what a second compiler made, or
 a stamp with its sum). What is not found so is `not known`, and `not proved`.
 
-Needs Python 3.8, and git for the commit. Ends with status 1 where no program is built or a file cannot be written.
+Needs Python 3.8, and git for the commit. Ends with status 1 where overlay is not built or a file cannot be written.
 """
 import argparse
 import os
@@ -22,10 +23,19 @@ import subprocess
 import sys
 
 sys.dont_write_bytecode = True
-from build_unproved import OUT, TOP, commit, record, sum_of
+from build_unproved import PROGRAMS, TOP, commit, record, sum_of, unproved
 
-PROVED = os.path.join(TOP, "crates", "overlay", "out", "overlay")
 UNKNOWN = "not known"
+
+
+def proved(name):
+    """Where the program of this name stands when the gate built it."""
+    return os.path.join(TOP, "crates", name, "out", name)
+
+
+def built(name):
+    """The program of this name that is taken, if one is built."""
+    return next((it for it in (proved(name), unproved(name)) if os.path.isfile(it)), None)
 
 
 def sources():
@@ -51,7 +61,7 @@ def kit_of_path():
 
 def is_proved(program):
     """Whether the kit left beside a program what it leaves of proved ones alone."""
-    if program != PROVED:
+    if program not in map(proved, PROGRAMS):
         return False
     if os.path.isfile(f"{program}.by-rattle"):
         return True
@@ -85,16 +95,22 @@ def put(source, folder, name=None, mode=0o644):
     print(to)
 
 
-def install(program, top):
-    put(program, f"{top}/bin", "overlay", 0o755)
-    put(f"{program}.made", f"{top}/bin", "overlay.made")
-    put(os.path.join(TOP, "docs", "overlay.1"), f"{top}/share/man/man1")
+def install_program(name, top):
+    program = built(name)
+    put(program, f"{top}/bin", name, 0o755)
+    put(f"{program}.made", f"{top}/bin", f"{name}.made")
+    put(os.path.join(TOP, "docs", f"{name}.1"), f"{top}/share/man/man1")
+    with open(f"{program}.made", encoding="utf-8") as it:
+        print(it.read(), end="")
+
+
+def install(names, top):
     put(os.path.join(TOP, "docs", "overlay.schema.json"), f"{top}/share/overlay")
     examples = os.path.join(TOP, "examples")
     for name in sorted(os.listdir(examples)):
         put(os.path.join(examples, name), f"{top}/share/overlay/examples")
-    with open(f"{program}.made", encoding="utf-8") as it:
-        print(it.read(), end="")
+    for name in names:
+        install_program(name, top)
 
 
 def main():
@@ -106,14 +122,15 @@ def main():
     options = parser.parse_args()
     if options.record == bool(options.prefix):
         parser.error("either a prefix or --record is wanted")
-    built = [it for it in (PROVED, OUT) if os.path.isfile(it)]
-    if not built or options.record and built[0] != PROVED:
+    names = [it for it in PROGRAMS if (os.path.isfile(proved(it)) if options.record else built(it))]
+    if PROGRAMS[0] not in names:
         print("install.py: no program is built: run `make`, or `make prove`", file=sys.stderr)
         return 1
     try:
-        with_record(built[0])
+        for name in names:
+            with_record(built(name))
         if not options.record:
-            install(built[0], os.path.abspath(options.destdir + os.path.abspath(options.prefix)))
+            install(names, os.path.abspath(options.destdir + os.path.abspath(options.prefix)))
     except OSError as fault:
         print(f"install.py: {fault.filename}: {fault.strerror}", file=sys.stderr)
         return 1
