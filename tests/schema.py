@@ -205,7 +205,7 @@ def verdict(programs, validator, command, text):
     found = set(places(validator.iter_errors(document)))
     if status != 6:
         return ("disagreed", f"is read, and the schema refuses {sorted(found)}") if found else ("read by both", None)
-    if kind != "Unknown" and said.endswith(NO_PHRASE):
+    if kind != "Unknown" and said.endswith(NO_PHRASE) and command not in OF_INSPECT:
         return "disagreed", f"is answered {path} {kind}, and people are not told what the form wants there"
     holder = path.rpartition(".")[0]
     if path in found or kind == "Unknown" and holder in found:
