@@ -1,4 +1,5 @@
-# make                    builds overlay and inspect unproved, with all their checks, to out/overlay-unproved and out/inspect-unproved
+# make                    builds overlay unproved, with all its checks, to out/overlay-unproved
+# make inspect            builds inspect so, to out/inspect-unproved
 # make prove              passes the gate: each proof, edit, test and program; the proved programs are crates/overlay/out/overlay
 #                         and crates/inspect/out/inspect
 # make test               runs the scripts outside the gate on the programs that are built, the proved ones where both are
@@ -7,14 +8,15 @@
 PREFIX = /usr/local
 DESTDIR =
 PROGRAMS = overlay inspect
-UNPROVED = $(PROGRAMS:%=out/%-unproved)
 SOURCES := crates.txt $(shell find crates -path '*/src/*' -name '*.rt')
 # the proved program of a name where it is built, else the unproved one
 built = $(if $(wildcard crates/$(1)/out/$(1)),crates/$(1)/out/$(1),out/$(1)-unproved)
 
-.PHONY: all prove test install clean
+.PHONY: all inspect prove test install clean
 
-all: $(UNPROVED)
+all: out/overlay-unproved
+
+inspect: out/inspect-unproved
 
 out/%-unproved: $(SOURCES) tools/build_unproved.py
 	tools/build_unproved.py --program $* $@
