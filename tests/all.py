@@ -28,11 +28,13 @@ def calls(program, inspect):
     yield "changes.py", [program]
     yield from (("cases.py", [program, line]) for line in lines)
     yield "schema.py", [program, inspect]
-    for name in ("cookbook", "pictures", "scenarios", "statuses", "rehearsals", "installs", "captures", "forms", "exports",
+    yield "cookbook.py", [program, inspect]
+    for name in ("pictures", "scenarios", "statuses", "rehearsals", "installs", "captures", "forms", "exports",
                  "allocations"):
         yield f"{name}.py", [program]
     yield from ((f"inspect_{it}.py", [inspect]) for it in ("ways", "unused"))
-    yield from ((f"inspect_{it}.py", [inspect, program]) for it in ("diff", "expect"))
+    yield from ((f"inspect_{it}.py", [inspect, program]) for it in ("diff", "expect", "hitless"))
+    yield "windows.py", [inspect, program]
     yield "shorts.py", []
     yield "ways.py", []
     yield "pages.py", []

@@ -1,14 +1,14 @@
 #!/usr/bin/env python3
-"""Runs the commands of README.md, docs/COOKBOOK.md and the manual page, and prints how many print what the page says:
-cookbook.py PROGRAM
+"""Runs the commands of README.md, docs/COOKBOOK.md and the manual pages, and prints how many print what the page says:
+cookbook.py OVERLAY INSPECT
 
 A line of a page that is indented and begins with `$ ` is a command, and the indented lines under it, up to the next one, are its
-output, with the empty lines between them; in the manual page these lines are literal displays. The commands are run in order by
-bash, in a temporary folder with links to `examples`, `tests` and `tools`, where PROGRAM, a built `overlay`, is first on the path,
-and stands in the place of `out/overlay-unproved` and of `crates/overlay/out/overlay`. A `make &&` in front of a command is left
+output, with the empty lines between them; in a manual page these lines are literal displays. The commands are run in order by
+bash, in a temporary folder with links to `examples`, `tests` and `tools`, where the built programs are first on the path, and
+OVERLAY stands in the place of `out/overlay-unproved` and of `crates/overlay/out/overlay`. A `make &&` in front of a command is left
 out: it would build. What is written to standard output and to standard error is compared. No command is to leave a file at the
 top. Needs Python 3.10, bash, and the commands that the pages use: cut, diff, grep, jq, sed, uniq, yq. Ends with status 1 where an
-output differs, where a file is left, or where the manual page is not the one that the gate reads.
+output differs, where a file is left, or where the manual page of overlay is not the one that the gate reads.
 """
 import os
 import pathlib
@@ -19,7 +19,7 @@ import sys
 import tempfile
 
 TOP = pathlib.Path(__file__).resolve().parent.parent
-PAGES = ("README.md", "docs/COOKBOOK.md", "docs/overlay.1")
+PAGES = ("README.md", "docs/COOKBOOK.md", "docs/inspect.1", "docs/overlay.1")
 READ = "crates/man_page_tests/stdin"
 WRITTEN = re.compile("crates/overlay/out/overlay|out/overlay-unproved")
 BUILDS = "make && "
@@ -88,19 +88,20 @@ def differs(program, folder, command, wanted):
     return f"it leaves {left} at the top" if left else ""
 
 
-def prepare(program, folder):
+def prepare(program, inspect, folder):
     for name in LINKS:
         os.symlink(TOP / name, os.path.join(folder, name))
     for name in MADE:
         os.mkdir(os.path.join(folder, name))
     os.symlink(program, os.path.join(folder, "bin", "overlay"))
+    os.symlink(inspect, os.path.join(folder, "bin", "inspect"))
 
 
-def main(program):
+def main(program, inspect):
     commands = [command for page in PAGES for command in commands_of(page)]
     agree = 0
     with tempfile.TemporaryDirectory() as folder:
-        prepare(program, folder)
+        prepare(program, inspect, folder)
         for place, command, wanted in commands:
             said = differs(program, folder, command, wanted)
             agree += not said
@@ -114,6 +115,6 @@ def main(program):
 
 
 if __name__ == "__main__":
-    if len(sys.argv) != 2:
+    if len(sys.argv) != 3:
         sys.exit(__doc__)
-    sys.exit(main(os.path.abspath(sys.argv[1])))
+    sys.exit(main(*map(os.path.abspath, sys.argv[1:])))
