@@ -17,7 +17,7 @@ use Rattle.inspect_answers.specs.declared.comparing.Ending.{Ending}
 use Rattle.inspect_answers.specs.declared.diffing.Comparison.{Comparison}
 use Rattle.inspect_answers.specs.declared.diffing.Comparison.TheVariants.{Same, Differs, UnfitBefore, UnfitAfter}
 use Rattle.inspect_answers.specs.declared.top.Status.TheVariants as Ended
-use Rattle.inspect_changes.proofs.Gone.{gone_is, is_gone}
+use Rattle.inspect_changes.proofs.WhatWent.{gone_is, is_gone}
 use Rattle.inspect_changes.proofs.Throughout.{exact, one_line, told}
 
 alike : (found : Comparison) (text : List ℕ) → SaysWhether found text → (status_found found ≡ Ended.Done) ↔ (text ≡ [])

@@ -29,7 +29,7 @@ use Rattle.inspect_changes.specs.declared.fate.Difference.{Difference}
 use Rattle.inspect_changes.proofs.Delivered as Delivered
 use Rattle.inspect_changes.proofs.Differing.{fares, made, new_fate, old_fate, on_one_at_most}
 use Rattle.inspect_changes.proofs.Exact.{nothing, sole}
-use Rattle.inspect_changes.proofs.Gone.{goes_on}
+use Rattle.inspect_changes.proofs.WhatWent.{goes_on}
 
 -- a difference is of two networks that stand in both configurations
 record IsOf (c d : Config) (x : Difference) : Type 0 where

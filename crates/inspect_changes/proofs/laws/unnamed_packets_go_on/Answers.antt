@@ -1,4 +1,4 @@
-use Rattle.inspect_changes.proofs.Gone.{goes_on}
+use Rattle.inspect_changes.proofs.WhatWent.{goes_on}
 use Rattle.inspect_changes.proofs.laws.unnamed_packets_go_on.Goals as goal
 
 pub returns : goal.returns

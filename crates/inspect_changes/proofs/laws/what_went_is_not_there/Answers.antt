@@ -1,4 +1,4 @@
-use Rattle.inspect_changes.proofs.Gone.{gone_is, is_gone}
+use Rattle.inspect_changes.proofs.WhatWent.{gone_is, is_gone}
 use Rattle.inspect_changes.proofs.laws.what_went_is_not_there.Goals as goal
 
 pub returns : goal.returns
