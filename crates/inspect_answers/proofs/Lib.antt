@@ -5,6 +5,7 @@ mod Counting
 mod Meeting
 mod Otherwise
 mod Taken
-mod Keeping
 mod TookIdle
+mod TookReasons
+mod Keeping
 mod Changed

@@ -2,6 +2,7 @@ pub mod Expectations
 pub mod ExpectDocuments
 pub mod Expecting
 pub mod IdleLines
+pub mod Explained
 pub mod Answers
 pub mod Differences
 pub mod Commands

@@ -11,6 +11,7 @@ ghost use Rattle.inspect_answers.specs.Runs.{Keeps, status_of};
 
 use crate::asked::Asked;
 use crate::expecting::answer_expect;
+use crate::explaining::answer_why;
 use crate::idle_answer::answer_unused;
 use crate::verdict::{Verdict, answer_unfit};
 use crate::writing::write_all_ways;
@@ -132,5 +133,6 @@ pub(crate) fn answer<K: Sink>(
         Asked::Ways(pairs) => answer_ways(alloc, pairs, octets, sink),
         Asked::Expect => answer_expect(alloc, octets, sink),
         Asked::Unused => answer_unused(alloc, octets, sink),
+        Asked::Why => answer_why(alloc, octets, sink),
     }
 }

@@ -15,6 +15,8 @@ pub enum Asked {
     Expect,
     /// Which rules decide nothing, and which policies and chains are not in use.
     Unused,
+    /// What the outcomes of packets come of.
+    Why,
 }
 
 /// What the words after the program's name ask of a document: a command and the document's file, and, for `ways`, none
@@ -45,6 +47,7 @@ fn asked_alone(command: &str) -> Option<Asked>
         "ways" => Some(Asked::Ways(Pairs::All)),
         "expect" => Some(Asked::Expect),
         "unused" => Some(Asked::Unused),
+        "why" => Some(Asked::Why),
         _ => None,
     }
 }

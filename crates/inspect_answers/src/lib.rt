@@ -1,5 +1,6 @@
 //! The answers of `inspect`: what policies let through from each network to each other, by which rule and through which
-//! services, what differs between two configurations, and which packets have another outcome than is expected.
+//! services, what differs between two configurations, which packets have another outcome than is expected, which rules decide
+//! nothing, and what outcomes come of.
 #![tactic(auto)]
 
 mod answering;
@@ -10,6 +11,7 @@ mod expect_lines;
 mod expect_reader;
 mod expectation;
 mod expecting;
+mod explaining;
 mod idle_answer;
 mod idle_lines;
 pub mod laws;
