@@ -33,6 +33,7 @@ const USAGE: &str = "usage: inspect COMMAND, where a FILE of - is standard input
   diff OLD NEW         what goes another way after a change: objects, and which packets by which rule and services
   expect FILE          which packets have another outcome than the document expects
   unused FILE          which rules decide no packet, and which policies and chains are not in use
+  why FILE             what becomes of packets, by which rule, and what fails of the rules before that
   --help               this text; so does -h
   --version            the version
 ";
@@ -49,7 +50,8 @@ const STATUSES: &str =
   7  the configuration breaks a rule, or has no network of a name that is asked for; the line is `refused` and which
   8  standard output could not be written
   9  there was no memory
-A document is what `overlay compile` takes, and for `expect` what `overlay reach` takes with `expect` in each packet;
+A document is what `overlay compile` takes, for `why` what `overlay reach` takes, and for `expect` that with `expect` in
+each packet;
 docs/FORMATS.md has their form, and that of the lines.
 ";
 

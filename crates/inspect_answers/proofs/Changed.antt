@@ -8,16 +8,17 @@ use Rattle.compile_answers.specs.declared.unfit.Reception.TheVariants as Receive
 use Rattle.std.specs.Io.KnownBytes.{Appends}
 use Rattle.config_check.specs.Checked.{Checked}
 use Rattle.inspect_answers.specs.Changes.{IsValidIn, TookDifferences}
-use Rattle.inspect_answers.specs.Differences.{SaysWhether, Tells, lists_text}
-use Rattle.inspect_answers.specs.Fates.{all_differences}
-use Rattle.inspect_answers.specs.Objects.{gone}
+use Rattle.inspect_changes.specs.DifferenceLines.{lists_text}
+use Rattle.inspect_answers.specs.Differences.{SaysWhether, Tells}
+use Rattle.inspect_changes.specs.Fates.{all_differences}
+use Rattle.inspect_changes.specs.Objects.{gone}
 use Rattle.inspect_answers.specs.TwoRuns.{IsEndOf, OfBoth, status_found, which_found}
 use Rattle.inspect_answers.specs.declared.comparing.Ending.{Ending}
 use Rattle.inspect_answers.specs.declared.diffing.Comparison.{Comparison}
 use Rattle.inspect_answers.specs.declared.diffing.Comparison.TheVariants.{Same, Differs, UnfitBefore, UnfitAfter}
 use Rattle.inspect_answers.specs.declared.top.Status.TheVariants as Ended
-use Rattle.inspect_answers.proofs.Gone.{gone_is, is_gone}
-use Rattle.inspect_answers.proofs.Throughout.{exact, one_line, told}
+use Rattle.inspect_changes.proofs.WhatWent.{gone_is, is_gone}
+use Rattle.inspect_changes.proofs.Throughout.{exact, one_line, told}
 
 alike : (found : Comparison) (text : List ℕ) → SaysWhether found text → (status_found found ≡ Ended.Done) ↔ (text ≡ [])
 alike Same text h = ((λ e. h), (λ e. refl))

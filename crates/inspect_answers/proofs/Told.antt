@@ -21,18 +21,18 @@ use Rattle.policy_rules.specs.declared.matching.Decision.{Decision}
 use Rattle.policy_rules.proofs.Lists.{joined_is, is_joined, is_mapped, mapped_is}
 use Rattle.policy_regions.specs.Parts.{IsTuple}
 use Rattle.inspect_answers.specs.Answers.{Answer, IsAnswer, WasGiven, answer_unless, judged, missing_of, of_json, ways_answer, ways_reading, ways_value}
-use Rattle.inspect_answers.specs.Lines.{is_asked, network_text, pair_text, way_line, ways_text}
+use Rattle.inspect_changes.specs.Lines.{is_asked, network_text, pair_text, way_line, ways_text}
 use Rattle.inspect_answers.specs.Promise.{IsAskedFor, IsLetBetween, IsWrittenIn, Line, Tells, TookWays, line_text, lines_of, network_lines, pair_lines}
 use Rattle.inspect_answers.specs.Runs.{status_of}
-use Rattle.inspect_answers.specs.Ways.{IsLetThrough, ways_between}
-use Rattle.inspect_answers.specs.declared.asked.Pairs.{Pairs}
-use Rattle.inspect_answers.specs.declared.asked.Pairs.TheVariants.{All, Between}
+use Rattle.inspect_changes.specs.Ways.{IsLetThrough, ways_between}
+use Rattle.inspect_changes.specs.declared.pairs.Pairs.{Pairs}
+use Rattle.inspect_changes.specs.declared.pairs.Pairs.TheVariants.{All, Between}
 use Rattle.inspect_answers.specs.declared.top.Status.TheVariants as Ended
 use Rattle.inspect_answers.specs.declared.verdict.Verdict.{Verdict}
 use Rattle.inspect_answers.specs.declared.verdict.Verdict.TheVariants.{Good}
-use Rattle.inspect_answers.specs.declared.way.Passage.{Passage}
-use Rattle.inspect_answers.specs.declared.way.Way.{Way}
-use Rattle.inspect_answers.proofs.Exact.{let_through, on_one, on_one_at_most}
+use Rattle.inspect_changes.specs.declared.way.Passage.{Passage}
+use Rattle.inspect_changes.specs.declared.way.Way.{Way}
+use Rattle.inspect_changes.proofs.Exact.{let_through, on_one, on_one_at_most}
 
 -- the text
 

@@ -10,15 +10,15 @@ use Rattle.config_check.specs.Rules.{first_broken}
 use Rattle.config_check.specs.declared.refusal.Refusal.{Refusal}
 use Rattle.compile_answers.specs.Answers.{answer_good}
 use Rattle.inspect_answers.specs.Answers.{Answer, IsAnswer, WasGiven, answer_unless, judged, of_json, unused_answer, unused_reading, unused_value}
-use Rattle.inspect_answers.specs.Idle.{idle}
+use Rattle.inspect_rules.specs.Idle.{idle}
 use Rattle.inspect_answers.specs.IdleLines.{idle_text}
-use Rattle.inspect_answers.specs.IdleSentences.{TookUnused}
+use Rattle.inspect_answers.specs.Unused.{TookUnused}
 use Rattle.inspect_answers.specs.Promise.{IsWrittenIn}
 use Rattle.inspect_answers.specs.Runs.{status_of}
 use Rattle.inspect_answers.specs.declared.top.Status.TheVariants as Ended
 use Rattle.inspect_answers.specs.declared.verdict.Verdict.{Verdict}
 use Rattle.inspect_answers.specs.declared.verdict.Verdict.TheVariants.{Good}
-use Rattle.inspect_answers.proofs.Unneeded.{all_idle}
+use Rattle.inspect_rules.proofs.Unneeded.{all_idle}
 
 -- a valid configuration was read, and what is idle of it is the text
 record IsGood (octets : List ℕ) : Type 0 where

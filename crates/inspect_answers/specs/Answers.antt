@@ -5,8 +5,9 @@ use Rattle.serde_json.specs.Data.{Data}
 use Rattle.ov_json.specs.Json.{json_of}
 use Rattle.config_types.specs.declared.config.Config.{Config}
 use Rattle.config_model.specs.declared.input.CompileInput.{CompileInput}
+use Rattle.config_model.specs.declared.input.ReachInput.{ReachInput}
 use Rattle.config_model.specs.Faults.{Fault, fault_of}
-use Rattle.config_model.specs.Input.{compile_at}
+use Rattle.config_model.specs.Input.{compile_at, reach_at}
 use Rattle.config_check.specs.Finding.{network_named}
 use Rattle.config_check.specs.Rules.{first_broken}
 use Rattle.config_check.specs.declared.refusal.Refusal.{Refusal}
@@ -18,12 +19,13 @@ use Rattle.compile_answers.specs.declared.unfit.Unfit.{Unfit}
 use Rattle.compile_answers.specs.declared.unfit.Unfit.TheVariants as unfit
 use Rattle.inspect_answers.specs.Expectations.{ExpectInput, Expectation, expect_at}
 use Rattle.inspect_answers.specs.Expecting.{all_met, expect_text}
+use Rattle.inspect_answers.specs.Explained.{why_text}
 use Rattle.inspect_answers.specs.IdleLines.{idle_text}
-use Rattle.inspect_answers.specs.Lines.{ways_text}
+use Rattle.inspect_changes.specs.Lines.{ways_text}
 use Rattle.inspect_answers.specs.declared.asked.Asked.{Asked}
 use Rattle.inspect_answers.specs.declared.asked.Asked.TheVariants as Asks
-use Rattle.inspect_answers.specs.declared.asked.Pairs.{Pairs}
-use Rattle.inspect_answers.specs.declared.asked.Pairs.TheVariants.{All, Between}
+use Rattle.inspect_changes.specs.declared.pairs.Pairs.{Pairs}
+use Rattle.inspect_changes.specs.declared.pairs.Pairs.TheVariants.{All, Between}
 use Rattle.inspect_answers.specs.declared.verdict.Verdict.{Verdict}
 use Rattle.inspect_answers.specs.declared.verdict.Verdict.TheVariants.{Good, Differs, NotJson, BadDocument, Refused}
 
@@ -134,8 +136,23 @@ unused_value d = unused_reading (compile_at [] d)
 unfoldable pub unused_answer : List ℕ → Answer
 unused_answer octets = of_json unused_value (json_of octets)
 
+-- what becomes of packets, and what that comes of, of what was read for `why`, or not
+abbrev pub why_reading : Result ReachInput Fault → Answer
+why_reading (Err f) = judged (answer_bad f)
+why_reading (Ok r) =
+    answer_unless (first_broken r.input.topology r.input.config) (judged (answer_good (why_text r.input.config r.packets)))
+
+-- of a value
+unfoldable pub why_value : Data → Answer
+why_value d = why_reading (reach_at [] d)
+
+-- what `inspect why` answers to a document
+unfoldable pub why_answer : List ℕ → Answer
+why_answer octets = of_json why_value (json_of octets)
+
 -- what is answered to a document
 abbrev pub answer : Asked → List ℕ → Answer
 answer (Asks.Ways pairs) octets = ways_answer pairs octets
 answer Asks.Expect octets = expect_answer octets
 answer Asks.Unused octets = unused_answer octets
+answer Asks.Why octets = why_answer octets

@@ -11,14 +11,14 @@ use Rattle.config_model.specs.Input.{compile_at}
 use Rattle.config_check.specs.Checked.{Checked}
 use Rattle.config_check.specs.Rules.{first_broken}
 use Rattle.policy_regions.specs.Parts.{IsTuple}
-use Rattle.inspect_answers.specs.Deliveries.{GoesBetween, delivery_in}
-use Rattle.inspect_answers.specs.Differences.{lists_text}
-use Rattle.inspect_answers.specs.Fates.{passage}
-use Rattle.inspect_answers.specs.Objects.{objects_of}
+use Rattle.inspect_changes.specs.Deliveries.{GoesBetween, delivery_in}
+use Rattle.inspect_changes.specs.DifferenceLines.{lists_text}
+use Rattle.inspect_changes.specs.Fates.{passage}
+use Rattle.inspect_changes.specs.Objects.{objects_of}
 use Rattle.inspect_answers.specs.Promise.{IsWrittenIn}
-use Rattle.inspect_answers.specs.Unnamed.{IsOnLine, IsUnnamed}
-use Rattle.inspect_answers.specs.declared.fate.Difference.{Difference}
-use Rattle.inspect_answers.specs.declared.objects.Object.{Object}
+use Rattle.inspect_changes.specs.Unnamed.{IsOnLine, IsUnnamed}
+use Rattle.inspect_changes.specs.declared.fate.Difference.{Difference}
+use Rattle.inspect_changes.specs.declared.objects.Object.{Object}
 use Rattle.inspect_answers.specs.declared.top.Status.{Status}
 use Rattle.inspect_answers.specs.declared.top.Status.TheVariants as Ended
 

@@ -6,7 +6,7 @@ use Rattle.ov_types.specs.First.{same_name}
 use Rattle.ov_types.specs.Name.{name_of}
 use Rattle.inspect_answers.specs.declared.asked.Asked.{Asked}
 use Rattle.inspect_answers.specs.declared.asked.Asked.TheVariants as Asks
-use Rattle.inspect_answers.specs.declared.asked.Pairs.TheVariants.{All, Between}
+use Rattle.inspect_changes.specs.declared.pairs.Pairs.TheVariants.{All, Between}
 
 abbrev pub is_ways : List ℕ → Bool
 is_ways word = pointwise nat_eq word (codes "ways")
@@ -16,7 +16,8 @@ abbrev pub asked_alone : List ℕ → Option Asked
 asked_alone word =
     if is_ways word then Some (Asks.Ways All)
     else (if pointwise nat_eq word (codes "expect") then Some Asks.Expect
-    else (if pointwise nat_eq word (codes "unused") then Some Asks.Unused else None))
+    else (if pointwise nat_eq word (codes "unused") then Some Asks.Unused
+    else (if pointwise nat_eq word (codes "why") then Some Asks.Why else None)))
 
 -- the ways between two networks of these names, which differ
 abbrev pub asked_between : Option (List ℕ) → Option (List ℕ) → Option Asked

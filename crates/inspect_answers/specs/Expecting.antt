@@ -11,7 +11,7 @@ use Rattle.ov_types.specs.declared.packet.Why.{Why}
 use Rattle.ov_types.specs.declared.packet.Why.TheVariants as Reason
 use Rattle.config_types.specs.declared.config.Config.{Config}
 use Rattle.reach_plain.specs.Reachability.{reachability}
-use Rattle.report.specs.Outcomes.{services_text, why_text}
+use Rattle.inspect_changes.specs.Report.Outcomes.{services_text, why_text}
 use Rattle.inspect_answers.specs.Expectations.{Expectation}
 use Rattle.inspect_answers.specs.declared.expectation.Expected.{Expected}
 use Rattle.inspect_answers.specs.declared.expectation.Expected.TheVariants.{Dropped, NoSourcePort, NoDestination, NoRoute, Denied, Delivered}

@@ -3,10 +3,10 @@ use Rattle.std.specs.Prelude.{ℕ, List, [], ◌∷◌, ◌++◌, codes, decimal
 use Rattle.ov_types.specs.Rows.{rule_text}
 use Rattle.ov_types.specs.declared.packet.RuleNo.{RuleNo}
 use Rattle.config_types.specs.declared.config.Config.{Config}
-use Rattle.report.specs.Lists.{list_text}
-use Rattle.inspect_answers.specs.Idle.{idle}
-use Rattle.inspect_answers.specs.declared.idle.Idle.{Idle}
-use Rattle.inspect_answers.specs.declared.idle.Idle.TheVariants.{Rule, Policy, Chain}
+use Rattle.inspect_changes.specs.Report.Lists.{list_text}
+use Rattle.inspect_rules.specs.Idle.{idle}
+use Rattle.inspect_rules.specs.declared.idle.Idle.{Idle}
+use Rattle.inspect_rules.specs.declared.idle.Idle.TheVariants.{Rule, Policy, Chain}
 
 -- rules with commas between them, and `-` where there are none
 unfoldable pub rules_text : List RuleNo → List ℕ

@@ -13,12 +13,12 @@ use Rattle.config_check.specs.Rules.{first_broken}
 use Rattle.policy_rules.specs.declared.matching.Decision.{Decision}
 use Rattle.policy_regions.specs.Parts.{IsTuple}
 use Rattle.policy_regions.specs.Regions.{holds}
-use Rattle.inspect_answers.specs.Lines.{is_asked, way_line}
-use Rattle.inspect_answers.specs.Ways.{IsLetThrough, IsOnOneAtMost, ways_between}
-use Rattle.inspect_answers.specs.declared.asked.Pairs.{Pairs}
-use Rattle.inspect_answers.specs.declared.asked.Pairs.TheVariants.{All, Between}
-use Rattle.inspect_answers.specs.declared.way.Passage.{Passage}
-use Rattle.inspect_answers.specs.declared.way.Way.{Way}
+use Rattle.inspect_changes.specs.Lines.{is_asked, way_line}
+use Rattle.inspect_changes.specs.Ways.{IsLetThrough, IsOnOneAtMost, ways_between}
+use Rattle.inspect_changes.specs.declared.pairs.Pairs.{Pairs}
+use Rattle.inspect_changes.specs.declared.pairs.Pairs.TheVariants.{All, Between}
+use Rattle.inspect_changes.specs.declared.way.Passage.{Passage}
+use Rattle.inspect_changes.specs.declared.way.Way.{Way}
 
 -- a line: a way, with the network that it is from and the one that it is to
 pub record Line : Type 0 where

@@ -1,7 +1,8 @@
 -- How a run ends, by what was asked and by the octets that its source held.
 use Rattle.std.specs.Prelude.{◌≡◌, ℕ, ◌≤◌, List, length, Option, Some, None, ⊤}
 use Rattle.inspect_answers.specs.Answers.{answer}
-use Rattle.inspect_answers.specs.IdleSentences.{TookUnused}
+use Rattle.inspect_answers.specs.Explained.{TookExplained}
+use Rattle.inspect_answers.specs.Unused.{TookUnused}
 use Rattle.inspect_answers.specs.Promise.{TookWays}
 use Rattle.inspect_answers.specs.Unmet.{TookExpected}
 use Rattle.inspect_answers.specs.declared.asked.Asked.{Asked}
@@ -88,3 +89,4 @@ abbrev pub Keeps : Asked → Status → List ℕ → Option (List ℕ) → Optio
 Keeps (Asks.Ways pairs) status octets old new = (status ≡ Ended.Done) × TookWays pairs octets old new
 Keeps Asks.Expect status octets old new = TookExpected status octets old new
 Keeps Asks.Unused status octets old new = (status ≡ Ended.Done) × TookUnused octets old new
+Keeps Asks.Why status octets old new = (status ≡ Ended.Done) × TookExplained octets old new

@@ -6,11 +6,12 @@ ghost use Rattle.ov_io.specs.Pieces.{HasWriteCause};
 ghost use Rattle.compile_answers.specs.Answers.{answer_good};
 ghost use Rattle.inspect_answers.specs.Answers.{IsAnswer, IsUnfit, WasGiven, answer, judged, missing, missing_of};
 ghost use Rattle.inspect_answers.specs.Answers.{valid_answer, ways_answer, ways_value};
-ghost use Rattle.inspect_answers.specs.Lines.{ways_text};
+ghost use Rattle.inspect_changes.specs.Lines.{ways_text};
 ghost use Rattle.inspect_answers.specs.Runs.{Keeps, status_of};
 
-use crate::asked::{Asked, Pairs};
+use crate::asked::Asked;
 use crate::expecting::answer_expect;
+use crate::explaining::answer_why;
 use crate::idle_answer::answer_unused;
 use crate::verdict::{Verdict, answer_unfit};
 use crate::writing::write_all_ways;
@@ -18,6 +19,7 @@ use compile_answers::{Unfit, valid_of};
 use config_check::{Refusal, Valid, network_named};
 use config_model::{ReadRefusal, read_compile};
 use config_types::Config;
+use inspect_changes::Pairs;
 use ov_io::{Sink, WriteRefusal};
 use ov_json::value_of;
 use ov_types::{Name, NoMemory};
@@ -131,5 +133,6 @@ pub(crate) fn answer<K: Sink>(
         Asked::Ways(pairs) => answer_ways(alloc, pairs, octets, sink),
         Asked::Expect => answer_expect(alloc, octets, sink),
         Asked::Unused => answer_unused(alloc, octets, sink),
+        Asked::Why => answer_why(alloc, octets, sink),
     }
 }

@@ -3,15 +3,8 @@ ghost use Rattle.std.specs.Prelude.{◌≡◌};
 ghost use Rattle.ov_types.specs.Name.{name_of};
 ghost use Rattle.inspect_answers.specs.Commands.{asked_alone, asked_between, asked_of, is_diff, is_input, is_ways};
 
+use inspect_changes::Pairs;
 use ov_types::Name;
-
-/// From which networks ways are asked for, and to which.
-#[derive(Clone, Copy, PartialEq, Eq)]
-pub enum Pairs {
-    /// From each network to each other.
-    All,
-    Between { from: Name, to: Name },
-}
 
 /// What is asked of a document.
 #[derive(Clone, Copy, PartialEq, Eq)]
@@ -22,6 +15,8 @@ pub enum Asked {
     Expect,
     /// Which rules decide nothing, and which policies and chains are not in use.
     Unused,
+    /// What the outcomes of packets come of.
+    Why,
 }
 
 /// What the words after the program's name ask of a document: a command and the document's file, and, for `ways`, none
@@ -52,6 +47,7 @@ fn asked_alone(command: &str) -> Option<Asked>
         "ways" => Some(Asked::Ways(Pairs::All)),
         "expect" => Some(Asked::Expect),
         "unused" => Some(Asked::Unused),
+        "why" => Some(Asked::Why),
         _ => None,
     }
 }

@@ -8,20 +8,20 @@ ghost use Rattle.config_types.specs.declared.config.Config.{Config as Configurat
 ghost use Rattle.compile_answers.specs.Answers.{DocumentAnswer, IsAnswered, answer_good};
 ghost use Rattle.inspect_answers.specs.Changes.{IsValidAs, IsValidIn, TookDifferences};
 ghost use Rattle.inspect_answers.specs.Differences.{IsOfAfter, IsOfBefore, IsWhich, IsWhichAfter, SaysWhether, WasSaid};
-ghost use Rattle.inspect_answers.specs.Differences.{diff_answer, diff_text, lists_text, to_document, to_value};
-ghost use Rattle.inspect_answers.specs.Fates.{all_differences};
-ghost use Rattle.inspect_answers.specs.Objects.{gone};
+ghost use Rattle.inspect_answers.specs.Differences.{diff_answer, to_document, to_value};
+ghost use Rattle.inspect_changes.specs.DifferenceLines.{diff_text, lists_text};
+ghost use Rattle.inspect_changes.specs.Fates.{all_differences};
+ghost use Rattle.inspect_changes.specs.Objects.{gone};
 ghost use Rattle.inspect_answers.specs.Runs.{IsAnswered as IsEndOfAnswer};
 ghost use Rattle.inspect_answers.specs.TwoRuns.{status_found};
 
-use crate::difference_lines::{CameLines, DifferenceLines, WentLines};
-use crate::differences::all_differences;
-use crate::fate::Difference;
-use crate::objects::{Object, gone};
 use crate::writing::write_each;
 use compile_answers::{Reception, Unfit, valid_of, write_unfit};
 use config_check::Valid;
 use config_model::{ReadRefusal, read_compile};
+use inspect_changes::{
+    CameLines, Difference, DifferenceLines, Object, WentLines, all_differences, gone,
+};
 use ov_io::{Sink, TextOut, WriteRefusal, write_gathered};
 use ov_json::value_of;
 use ov_types::NoMemory;
@@ -134,7 +134,7 @@ fn write_found<K: Sink>(alloc: Global, found: &Found, sink: &mut K) -> Result<()
     write_gathered(sink, &mut gathered)
 }
 
-#[tactic(auto, using(crate::proofs::SomeLine::no_went, crate::proofs::SomeLine::no_came, crate::proofs::SomeLine::no_difference))]
+#[tactic(auto, using(inspect_changes::proofs::SomeLine::no_went, inspect_changes::proofs::SomeLine::no_came, inspect_changes::proofs::SomeLine::no_difference))]
 fn comparison_of(found: &Found) -> Comparison
     ensures { SaysWhether result (lists_text found.now.went.items found.now.came.items found.now.differences.items) }
 {

@@ -1,13 +1,12 @@
 //! The lines of packets whose outcome is otherwise than is expected.
 ghost use Rattle.std.specs.Prelude.{◌≡◌, Some, IfOk, string_bytes};
-ghost use Rattle.report.specs.Outcomes.{why_text};
+ghost use Rattle.inspect_changes.specs.Report.Outcomes.{why_text};
 ghost use Rattle.inspect_answers.specs.Expecting.{counts_line, delivered_text, expected_text, outcome_text, unmet_line};
 
 use crate::expectation::Expected;
-use crate::lines::joined;
+use inspect_changes::{LinesOf, joined};
 use ov_io::TextOut;
 use ov_types::{NoMemory, Outcome, PortNo, ServiceNo, Why};
-use report::LinesOf;
 use std::alloc::{AllocError, Global};
 use std::fmt;
 

@@ -8,14 +8,13 @@ ghost use Rattle.compile_answers.specs.Answers.{answer_good};
 ghost use Rattle.inspect_answers.specs.Answers.{IsUnfit, WasGiven, judged, unused_answer, unused_value};
 ghost use Rattle.inspect_answers.specs.IdleLines.{idle_line, idle_text};
 
-use crate::idle::Idle;
 use crate::idle_lines::IdleLines;
-use crate::idling::idle_of;
 use crate::verdict::{Verdict, answer_unfit};
 use crate::writing::write_each;
 use compile_answers::{Unfit, valid_of};
 use config_check::Valid;
 use config_model::{ReadRefusal, read_compile};
+use inspect_rules::{Idle, idle_of};
 use ov_io::{Sink, TextOut, WriteRefusal, write_gathered};
 use ov_json::value_of;
 use ov_types::NoMemory;

@@ -1,14 +1,14 @@
 //! The lines of what decides nothing, or is not in use.
 ghost use Rattle.std.specs.Prelude.{◌≡◌, ◌++◌, IfOk, OnOk, OnErr, codes, string_bytes};
 ghost use Rattle.ov_types.specs.Rows.{rule_text};
-ghost use Rattle.report.specs.Lists.{more_text};
+ghost use Rattle.inspect_changes.specs.Report.Lists.{more_text};
 ghost use Rattle.inspect_answers.specs.IdleLines.{chain_line, idle_line, policy_line, rule_line, rule_words};
 ghost use Rattle.inspect_answers.specs.IdleLines.{rules_text};
 
-use crate::idle::Idle;
+use inspect_changes::LinesOf;
+use inspect_rules::Idle;
 use ov_io::TextOut;
 use ov_types::{Name, NoMemory, RuleNo};
-use report::LinesOf;
 use std::alloc::{AllocError, Global};
 
 fn append_behind_comma(rule: RuleNo, text: &mut String) -> Result<(), AllocError>

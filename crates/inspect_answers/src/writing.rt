@@ -3,17 +3,14 @@ ghost use Rattle.std.specs.Prelude.{◌≡◌, ◌++◌, [], flat_map, OnOk, OnE
 ghost use Rattle.std.specs.Io.KnownBytes.{Appends};
 ghost use Rattle.ov_io.specs.Inputs.{TookFront};
 ghost use Rattle.ov_io.specs.Pieces.{HasWriteCause, IsOnItsWay};
-ghost use Rattle.inspect_answers.specs.Lines.{between_text, is_asked, network_text, pair_text, ways_text};
+ghost use Rattle.inspect_changes.specs.Lines.{between_text, is_asked, network_text, pair_text, ways_text};
 
-use crate::asked::Pairs;
-use crate::lines::WayLines;
-use crate::ways::ways_found;
 use compile_answers::write_one;
 use config_check::Valid;
 use config_types::Network;
+use inspect_changes::{LinesOf, Pairs, WayLines, ways_found};
 use ov_io::{Sink, TextOut, WriteRefusal, write_gathered};
 use policy_regions::LastFound;
-use report::LinesOf;
 use std::alloc::Global;
 
 /// Hands on the lines of each thing, in order.
@@ -121,7 +118,7 @@ fn write_network<K: Sink>(
 }
 
 /// Writes the ways that are asked for of a valid configuration.
-#[tactic(auto, unfolding(crate::specs::Lines::ways_text))]
+#[tactic(auto, unfolding(inspect_changes::specs::Lines::ways_text))]
 pub(crate) fn write_all_ways<K: Sink>(
     alloc: Global,
     pairs: &Pairs,

@@ -1,8 +1,9 @@
 use Rattle.std.proofs.Common.{◌≡◌, ℕ, List, subst}
 use Rattle.std.specs.Io.KnownBytes.{Appends}
-use Rattle.inspect_answers.specs.Differences.{SaysWhether, lists_text}
-use Rattle.inspect_answers.specs.Fates.{all_differences}
-use Rattle.inspect_answers.specs.Objects.{gone}
+use Rattle.inspect_changes.specs.DifferenceLines.{lists_text}
+use Rattle.inspect_answers.specs.Differences.{SaysWhether}
+use Rattle.inspect_changes.specs.Fates.{all_differences}
+use Rattle.inspect_changes.specs.Objects.{gone}
 use Rattle.inspect_answers.proofs.Changed.{took}
 use Rattle.inspect_answers.proofs.diffing.write_differences.Goals as goal
 

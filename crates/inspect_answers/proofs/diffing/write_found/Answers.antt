@@ -1,7 +1,7 @@
 use Rattle.std.proofs.Common.{◌++◌, ℕ, List, [], subst}
 use Rattle.ov_io.specs.Pieces.{IsOnItsWay}
 use Rattle.ov_io.proofs.PieceLemmas.{ends_cut}
-use Rattle.inspect_answers.specs.Differences.{lists_text}
+use Rattle.inspect_changes.specs.DifferenceLines.{lists_text}
 use Rattle.inspect_answers.proofs.diffing.write_found.Goals as goal
 
 pub returns-clause-front : goal.returns-clause-front

@@ -1,7 +1,7 @@
 use Rattle.std.proofs.Common.{◌++◌, ℕ, List, flat_map}
 use Rattle.ov_io.proofs.PieceLemmas.{on_err}
 use Rattle.compile_answers.proofs.Ways.{front_first, front_then, ok_then, err_then}
-use Rattle.inspect_answers.specs.Differences.{came_line, difference_line, went_line}
+use Rattle.inspect_changes.specs.DifferenceLines.{came_line, difference_line, went_line}
 use Rattle.inspect_answers.proofs.diffing.write_lists.Goals as goal
 
 pub returns-in_err-write_each-clause-front : goal.returns-in_err-write_each-clause-front

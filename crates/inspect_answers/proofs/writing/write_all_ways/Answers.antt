@@ -4,7 +4,7 @@ use Rattle.config_types.specs.declared.config.Config.{Config}
 use Rattle.config_types.specs.declared.config.Network.{Network}
 use Rattle.ov_io.proofs.PieceLemmas.{ends_cut, on_err, way_breaks, way_goes_on}
 use Rattle.compile_answers.proofs.LineLemmas.{drop_at}
-use Rattle.inspect_answers.specs.Lines.{network_text, pair_text, ways_text}
+use Rattle.inspect_changes.specs.Lines.{network_text, pair_text, ways_text}
 use Rattle.inspect_answers.proofs.writing.write_all_ways.Goals as goal
 
 pub returns-in_err-write_network-clause-front : goal.returns-in_err-write_network-clause-front

@@ -1,7 +1,7 @@
 use Rattle.std.proofs.Common.{◌≡◌, drop}
 use Rattle.std.specs.Prelude.{flat_map}
 use Rattle.ov_io.specs.Pieces.{IsOnItsWay}
-use Rattle.inspect_answers.specs.Lines.{network_text}
+use Rattle.inspect_changes.specs.Lines.{network_text}
 use Rattle.inspect_answers.proofs.writing.write_all_ways.Given as goal
 
 abbrev pub invariant-loop-from : goal.invariant-loop-from

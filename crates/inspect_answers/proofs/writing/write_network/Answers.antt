@@ -2,7 +2,7 @@ use Rattle.std.proofs.Common.{ap, ◌∙◌}
 use Rattle.std.specs.Prelude.{flat_map}
 use Rattle.ov_io.proofs.PieceLemmas.{on_err, way_breaks, way_goes_on}
 use Rattle.compile_answers.proofs.LineLemmas.{drop_at}
-use Rattle.inspect_answers.specs.Lines.{pair_text}
+use Rattle.inspect_changes.specs.Lines.{pair_text}
 use Rattle.inspect_answers.proofs.writing.write_network.Goals as goal
 
 pub returns-in_err-write_pair-clause-front : goal.returns-in_err-write_pair-clause-front

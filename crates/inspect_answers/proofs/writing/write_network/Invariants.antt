@@ -1,7 +1,7 @@
 use Rattle.std.proofs.Common.{◌≡◌, ◌++◌, drop}
 use Rattle.std.specs.Prelude.{flat_map}
 use Rattle.ov_io.specs.Pieces.{IsOnItsWay}
-use Rattle.inspect_answers.specs.Lines.{pair_text}
+use Rattle.inspect_changes.specs.Lines.{pair_text}
 use Rattle.inspect_answers.proofs.writing.write_network.Given as goal
 
 abbrev pub invariant-loop-to : goal.invariant-loop-to

@@ -1,5 +1,0 @@
-use Rattle.inspect_answers.proofs.Gone.{gone_is, is_gone}
-use Rattle.inspect_answers.proofs.laws.what_went_is_not_there.Goals as goal
-
-pub returns : goal.returns
-returns g = λ c d o. (gone_is c d o, is_gone c d o)

@@ -1,0 +1,177 @@
+//! The answer of `why`.
+ghost use Rattle.std.specs.Prelude.{◌≡◌, ◌++◌, [], IfOk, IfErr, OnOk, OnErr};
+ghost use Rattle.std.specs.Io.KnownBytes.{Appends};
+ghost use Rattle.serde_json.specs.View.{view};
+ghost use Rattle.ov_io.specs.Inputs.{TookFront};
+ghost use Rattle.ov_io.specs.Pieces.{HasWriteCause, IsOnItsWay};
+ghost use Rattle.compile_answers.specs.Answers.{answer_good};
+ghost use Rattle.inspect_reasons.specs.CauseLines.{cause_line};
+ghost use Rattle.inspect_answers.specs.Answers.{IsUnfit, WasGiven, judged, why_answer, why_value};
+ghost use Rattle.inspect_answers.specs.Explained.{explained_text, packet_text, packets_from, why_text};
+
+use crate::verdict::{Verdict, answer_unfit};
+use crate::writing::write_each;
+use compile_answers::{Unfit, valid_of, write_one};
+use config_check::Valid;
+use config_model::{ReachInput, ReadRefusal, read_reach};
+use inspect_changes::LinesOf;
+use inspect_reasons::{Cause, CauseText, causes_of};
+use ov_io::{Sink, TextOut, WriteRefusal, write_gathered};
+use ov_json::value_of;
+use ov_types::{Items, NoMemory, Outcome, Packet};
+use reach_plain::reach;
+use report::OutcomeLines;
+use serde_json::Value;
+use std::alloc::Global;
+
+/// The line of what an outcome comes of, behind the number of the packet.
+#[derive(Clone, Copy)]
+struct CauseLines {
+    number: usize,
+}
+
+impl LinesOf<Cause> for CauseLines {
+    ghost lines = { λ w cause. cause_line w.number cause };
+
+    #[tactic(auto, unfolding(inspect_reasons::specs::CauseLines::cause_line))]
+    fn append(&self, _alloc: Global, cause: &Cause, out: &mut TextOut) -> Result<(), NoMemory> {
+        let number = self.number;
+        let cause = CauseText(*cause);
+        write!(out, "{number} {cause}\n")
+    }
+}
+
+/// Hands on the lines of an outcome and of what it comes of, behind the number of the packet.
+fn write_explained<K: Sink>(
+    alloc: Global,
+    number: usize,
+    outcome: &Outcome,
+    causes: &[Cause],
+    sink: &mut K,
+    gathered: &mut TextOut,
+) -> Result<(), WriteRefusal>
+    ensures ok { OnOk result (IsOnItsWay (K.taken sink.old) (K.taken sink.new) gathered.new []
+        (gathered.old ++ explained_text number outcome.now causes.now)) }
+    ensures front { OnErr result (TookFront (K.taken sink.old) (K.taken sink.new)
+        (gathered.old ++ explained_text number outcome.now causes.now)) }
+    ensures cause { HasWriteCause (K.faults sink.old) (K.faults sink.new) result }
+{
+    write_one(alloc, &OutcomeLines { number }, outcome, sink, gathered)?;
+    write_each(alloc, &CauseLines { number }, causes, sink, gathered)
+}
+
+/// Hands on the lines of a packet of this number.
+#[tactic(auto, using(ov_io::proofs::PieceLemmas::took_nothing))]
+fn write_packet<K: Sink>(
+    alloc: Global,
+    number: usize,
+    valid: &Valid,
+    packet: &Packet,
+    sink: &mut K,
+    gathered: &mut TextOut,
+) -> Result<(), WriteRefusal>
+    ensures ok { OnOk result (IsOnItsWay (K.taken sink.old) (K.taken sink.new) gathered.new []
+        (gathered.old ++ packet_text valid.now.config number packet.now)) }
+    ensures front { OnErr result (TookFront (K.taken sink.old) (K.taken sink.new)
+        (gathered.old ++ packet_text valid.now.config number packet.now)) }
+    ensures cause { HasWriteCause (K.faults sink.old) (K.faults sink.new) result }
+{
+    let causes = causes_of(alloc, valid, *packet)?;
+    let outcome = reach(valid, *packet);
+    write_explained(alloc, number, &outcome, causes.as_slice(), sink, gathered)
+}
+
+/// Hands on the lines of each packet, in order.
+fn write_packets<K: Sink>(
+    alloc: Global,
+    valid: &Valid,
+    packets: &[Packet],
+    sink: &mut K,
+    gathered: &mut TextOut,
+) -> Result<(), WriteRefusal>
+    ensures ok { OnOk result (IsOnItsWay (K.taken sink.old) (K.taken sink.new) gathered.new []
+        (gathered.old ++ packets_from valid.now.config 1 packets.now)) }
+    ensures front { OnErr result (TookFront (K.taken sink.old) (K.taken sink.new)
+        (gathered.old ++ packets_from valid.now.config 1 packets.now)) }
+    ensures cause { HasWriteCause (K.faults sink.old) (K.faults sink.new) result }
+{
+    for (index, packet) in packets.iter().enumerate() {
+        write_packet(alloc, index + 1, valid, packet, sink, gathered)?;
+    }
+    Ok(())
+}
+
+/// Writes the outcome of each packet and what it comes of.
+#[tactic(auto, unfolding(crate::specs::Explained::why_text))]
+fn write_why<K: Sink>(
+    alloc: Global,
+    valid: &Valid,
+    packets: &[Packet],
+    sink: &mut K,
+) -> Result<(), WriteRefusal>
+    ensures ok { OnOk result (Appends (K.taken sink.old) (K.taken sink.new) (why_text valid.now.config packets.now)) }
+    ensures front { OnErr result (TookFront (K.taken sink.old) (K.taken sink.new) (why_text valid.now.config packets.now)) }
+    ensures cause { HasWriteCause (K.faults sink.old) (K.faults sink.new) result }
+{
+    let mut gathered = TextOut::new(alloc);
+    write_packets(alloc, valid, packets, sink, &mut gathered)?;
+    write_gathered(sink, &mut gathered)
+}
+
+/// Packets, and the valid configuration that decides them.
+#[derive(Drop)]
+struct Question {
+    valid: Valid,
+    packets: Items<Packet>,
+}
+
+/// What `why` takes from a value.
+#[tactic(auto, using(crate::proofs::Unfitting::unfit_anyway), unfolding(crate::specs::Answers::why_value))]
+fn why_taken(alloc: Global, value: &Value) -> Result<Question, Unfit>
+    ensures fit { IfOk result (λ asked. why_value (view value.now)
+        ≡ judged (answer_good (why_text asked.valid.config asked.packets))) }
+    ensures unfit { IfErr result (λ unfit. IsUnfit unfit (why_value (view value.now))) }
+{
+    match read_reach(alloc, value) {
+        Ok(ReachInput { input, packets }) => match valid_of(alloc, input) {
+            Ok(valid) => Ok(Question { valid, packets }),
+            Err(unfit) => Err(unfit),
+        },
+        Err(ReadRefusal::Doc(fault)) => Err(Unfit::BadDocument(fault)),
+        Err(ReadRefusal::NoMemory) => Err(Unfit::NoMemory),
+    }
+}
+
+/// What `why` takes from an input.
+#[tactic(auto, unfolding(crate::specs::Answers::why_answer))]
+fn why_asked(alloc: Global, octets: &[u8]) -> Result<Question, Unfit>
+    ensures fit { IfOk result (λ asked. why_answer octets.now
+        ≡ judged (answer_good (why_text asked.valid.config asked.packets))) }
+    ensures unfit { IfErr result (λ unfit. IsUnfit unfit (why_answer octets.now)) }
+{
+    match value_of(alloc, octets) {
+        Ok(Some(value)) => why_taken(alloc, &value),
+        Ok(None) => Err(Unfit::NotJson),
+        Err(NoMemory) => Err(Unfit::NoMemory),
+    }
+}
+
+/// Writes what `why` answers to an input.
+pub(crate) fn answer_why<K: Sink>(
+    alloc: Global,
+    octets: &[u8],
+    sink: &mut K,
+) -> Result<Verdict, WriteRefusal>
+    ensures given { IfOk result (λ verdict. WasGiven (why_answer octets.now) verdict
+        (K.taken sink.old) (K.taken sink.new)) }
+    ensures front { OnErr result (TookFront (K.taken sink.old) (K.taken sink.new) (why_answer octets.now).text) }
+    ensures cause { HasWriteCause (K.faults sink.old) (K.faults sink.new) result }
+{
+    match why_asked(alloc, octets) {
+        Ok(asked) => {
+            write_why(alloc, &asked.valid, asked.packets.as_slice(), sink)?;
+            Ok(Verdict::Good)
+        }
+        Err(unfit) => answer_unfit(alloc, unfit, sink),
+    }
+}

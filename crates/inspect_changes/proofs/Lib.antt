@@ -1,0 +1,6 @@
+pub mod Exact
+pub mod Differing
+pub mod Delivered
+pub mod WhatWent
+pub mod Throughout
+pub mod SomeLine

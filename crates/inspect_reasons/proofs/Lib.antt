@@ -1,0 +1,5 @@
+mod Kept
+mod Failing
+mod Asked
+mod Nowhere
+pub mod Explained

@@ -1,0 +1,3 @@
+pub mod Deciders
+pub mod Idle
+pub mod IdleSentences

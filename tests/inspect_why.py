@@ -1,0 +1,144 @@
+#!/usr/bin/env python3
+"""Compares `inspect why` with `overlay reach`, and with the networks, the rules and the conditions that are found here.
+
+usage: tests/inspect_why.py PROGRAM OVERLAY [COUNT [SEED]]
+
+PROGRAM is the built `inspect`, OVERLAY the built `overlay`. COUNT random documents are made (50 where none is given), as those of
+tests/inspect_expect.py without what is expected. The lines of outcomes are to be those that `overlay reach` prints. What is to stand
+below each is found here: the two networks, each rule that is asked before the one that decides with the first condition that fails
+forwards and mirrored, and that one; or the policies of the packet's network and each network that holds the address. Then each
+document is spoilt, and has to be refused as `overlay reach` refuses it. Needs Python 3.8. Ends with status 1 where something differs.
+"""
+import collections
+import copy
+import ipaddress
+import random
+import sys
+
+from inspect_expect import peopled, run
+
+SPOILT = [
+    lambda doc, packet: packet.pop("to"),
+    lambda doc, packet: packet.update(dport=65536),
+    lambda doc, packet: packet.update(protocol="tcp"),
+    lambda doc, packet: packet.update(expect="dropped"),
+    lambda doc, packet: doc.update(more=[]),
+    lambda doc, packet: doc.pop("configuration"),
+    lambda doc, packet: doc["configuration"]["networks"][0].update(policies=["nowhere"]),
+    lambda doc, packet: doc["configuration"]["ports"].append(dict(doc["configuration"]["ports"][0])),
+]
+
+
+def fits(rule, a, b):
+    return rule["source"] in ("any", a["name"]) and rule["destination"] in ("any", b["name"])
+
+
+def between(configuration, a, b):
+    """The rules between two networks, each with its policy's name and its position."""
+    for policy in sorted(configuration["policies"], key=lambda it: it["sequence"]):
+        if all(policy["name"] in network["policies"] for network in (a, b)):
+            for position, rule in enumerate(policy["rules"], 1):
+                if fits(rule, a, b) or fits(rule, b, a):
+                    yield policy["name"], position, rule
+
+
+def within(ends, port):
+    return ends[0] <= port <= ends[1]
+
+
+def failing(rule, packet, sport, dport, a, b):
+    """The first condition that fails, or none."""
+    conditions = [
+        ("protocol", rule["protocol"] in ("any", packet["protocol"])),
+        ("source-ports", within(rule["source_ports"], sport)),
+        ("destination-ports", within(rule["destination_ports"], dport)),
+        ("direction", fits(rule, a, b)),
+    ]
+    return next((name for name, holds in conditions if not holds), None)
+
+
+def asked(configuration, packet, a, b):
+    for policy, position, rule in between(configuration, a, b):
+        forwards = failing(rule, packet, packet["sport"], packet["dport"], a, b)
+        mirrored = "-"
+        if rule["direction"] == "<>":
+            mirrored = failing(rule, packet, packet["dport"], packet["sport"], b, a)
+        if forwards is None or mirrored is None:
+            yield f"decided policy {policy} position {position} {'forwards' if forwards is None else 'mirrored'}"
+            return
+        yield f"skipped policy {policy} position {position} forwards {forwards} mirrored {mirrored}"
+
+
+def holds(network, address):
+    return any(ipaddress.ip_address(address) in ipaddress.ip_network(subnet) for subnet in network["subnets"])
+
+
+def related(configuration, a, b):
+    return any(rule["action"] != "deny" for _, _, rule in between(configuration, a, b))
+
+
+def attached(network):
+    return [f"attached network {network['name']} policy {policy}" for policy in network["policies"]]
+
+
+def causes(configuration, packet):
+    ports = [port for port in configuration["ports"] if port["id"] == packet["port"]]
+    if not ports:
+        return
+    own = [network for network in configuration["networks"] if network["name"] == ports[0]["network"]][0]
+    yield f"from network {own['name']}"
+    holders = [network for network in configuration["networks"] if holds(network, packet["to"])]
+    near = [network for network in holders if network is own or related(configuration, own, network)]
+    if not near:
+        yield from attached(own)
+        for network in holders:
+            yield f"unrelated network {network['name']}"
+            yield from attached(network)
+        return
+    yield f"to network {near[0]['name']}"
+    if near[0] is not own:
+        yield from asked(configuration, packet, own, near[0])
+
+
+def told(doc, outcomes):
+    for number, (packet, outcome) in enumerate(zip(doc["packets"], outcomes), 1):
+        yield outcome
+        for cause in causes(doc["configuration"], packet):
+            yield f"{number} {cause}\n"
+
+
+def differences(program, overlay, doc, chance, words):
+    status, output = run(overlay, ["reach"], doc)
+    outcomes = output.splitlines(keepends=True)
+    expected = output if status else "".join(told(doc, outcomes))
+    found, wrong = run(program, ["why", "-"], doc), []
+    if found != (status, expected):
+        wrong.append(f"status {found[0]}: {found[1]} and not {status}: {expected}")
+    words.update(line.split()[1] for line in expected.splitlines())
+    if doc["packets"] and doc["configuration"]["ports"]:
+        spoilt = copy.deepcopy(doc)
+        chance.choice(SPOILT)(spoilt, chance.choice(spoilt["packets"]))
+        if run(program, ["why", "-"], spoilt) != run(overlay, ["reach"], spoilt):
+            wrong.append(f"a spoilt document: {run(program, ['why', '-'], spoilt)} and not {run(overlay, ['reach'], spoilt)}")
+    return status, wrong
+
+
+def main():
+    if not 3 <= len(sys.argv) <= 5:
+        sys.exit(__doc__)
+    program, overlay, count, seed = sys.argv[1], sys.argv[2], int((sys.argv[3:] or ["50"])[0]), int((sys.argv[4:] or ["1"])[0])
+    chance, words, done, refused, wrong = random.Random(seed), collections.Counter(), 0, 0, 0
+    while done < count:
+        doc = peopled(chance)
+        status, found = differences(program, overlay, doc, chance, words)
+        done, refused = done + (status == 0), refused + (status != 0)
+        for line in found[:5]:
+            print(line)
+        wrong += bool(found)
+    lines = ", ".join(f"{many} {word}" for word, many in sorted(words.items()))
+    print(f"{done} documents, {refused} refused, {wrong} documents with a difference; lines: {lines}")
+    sys.exit(1 if wrong else 0)
+
+
+if __name__ == "__main__":
+    main()
