@@ -2,7 +2,6 @@
 #![tactic(auto)]
 
 mod begin;
-mod changing;
 mod ends;
 mod node;
 mod planning;

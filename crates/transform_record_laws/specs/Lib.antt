@@ -1,2 +1,1 @@
 pub mod MachineModel
-pub mod Ports
