@@ -28,7 +28,7 @@ use Rattle.inspect_answers.specs.declared.verdict.Verdict.TheVariants.{Good}
 abbrev explained : Config → ℕ → Packet → Explained
 explained c n p = record { number = n; outcome = reachability c p; causes = causes c p }
 
-explained_from : Config → ℕ → List Packet → List Explained
+abbrev explained_from : Config → ℕ → List Packet → List Explained
 explained_from c n [] = []
 explained_from c n (p ∷ ps) = explained c n p ∷ explained_from c (n + 1) ps
 
