@@ -7,5 +7,4 @@ mod Otherwise
 mod Taken
 mod TookIdle
 mod TookReasons
-mod Keeping
 mod Changed
