@@ -1,5 +1,5 @@
 -- What is said of edits is so.
-use Rattle.std.proofs.Common.{◌≡◌, ◌↔◌, IsTrue, List, [], ◌∷◌, Option, Some, None, true, refl}
+use Rattle.std.proofs.Common.{◌≡◌, IsTrue, List, [], ◌∷◌, Option, Some, None, true, refl}
 use Rattle.std.specs.List.{All, Contains, list_all}
 use Rattle.std.proofs.lemmas.Bool.{and_parts}
 use Rattle.std.proofs.lemmas.List.Elements.{All-contains_itself, All-weaker}
@@ -13,7 +13,7 @@ use Rattle.hitless_laws.proofs.ByKind.{accepted}
 use Rattle.hitless_cells.specs.Interrupted.{IsInterrupted}
 use Rattle.hitless_cells.specs.Lines.{interruptions}
 use Rattle.hitless_cells.proofs.Exactly.{each_has_its_line, each_is_interrupted, hitless_exactly}
-use Rattle.hitless_answers.specs.Judging.{Standing, fault_in, judged, judged_by, judgements, standing_by, standing_first, standing_next}
+use Rattle.hitless_answers.specs.Judging.{Standing, fault_in, judged_by, judgements, standing_by, standing_first, standing_next}
 use Rattle.hitless_answers.proofs.Standing.{unfaulty}
 use Rattle.hitless_answers.specs.Promise.{AreSaidOf, IsMade, IsSaidOf}
 

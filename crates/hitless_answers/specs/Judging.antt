@@ -1,5 +1,5 @@
 -- What is said of edits, each of which is made of what the accepted ones before it made.
-use Rattle.std.specs.Prelude.{◌≡◌, List, [], ◌∷◌, Option, Some, None}
+use Rattle.std.specs.Prelude.{List, [], ◌∷◌, Option, Some, None}
 use Rattle.config_types.specs.declared.edit.Edit.{Edit}
 use Rattle.config_check.specs.Checked.{Checked}
 use Rattle.config_check.specs.Edits.{edited}
