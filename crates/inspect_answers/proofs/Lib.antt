@@ -7,4 +7,5 @@ mod Otherwise
 mod Taken
 mod TookIdle
 mod TookReasons
+mod Editing
 mod Changed

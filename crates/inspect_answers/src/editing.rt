@@ -14,6 +14,7 @@ use ov_io::{Sink, WriteRefusal};
 use std::alloc::Global;
 
 /// Writes what `hitless` answers to an input.
+#[tactic(auto, using(crate::proofs::Editing::kept_where_good))]
 pub(crate) fn answer_edits<K: Sink>(
     alloc: Global,
     octets: &[u8],
