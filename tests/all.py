@@ -33,7 +33,8 @@ def calls(program, inspect):
                  "allocations"):
         yield f"{name}.py", [program]
     yield from ((f"inspect_{it}.py", [inspect]) for it in ("ways", "unused"))
-    yield from ((f"inspect_{it}.py", [inspect, program]) for it in ("diff", "expect", "why"))
+    yield from ((f"inspect_{it}.py", [inspect, program]) for it in ("diff", "expect", "hitless"))
+    yield "windows.py", [inspect, program]
     yield "shorts.py", []
     yield "ways.py", []
     yield "pages.py", []

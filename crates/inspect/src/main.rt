@@ -34,6 +34,7 @@ const USAGE: &str = "usage: inspect COMMAND, where a FILE of - is standard input
   expect FILE          which packets have another outcome than the document expects
   unused FILE          which rules decide no packet, and which policies and chains are not in use
   why FILE             what becomes of packets, by which rule, and what fails of the rules before that
+  hitless FILE         which of a document's edits interrupt packets that are delivered before and after, and which packets
   --help               this text; so does -h
   --version            the version
 ";
@@ -50,9 +51,9 @@ const STATUSES: &str =
   7  the configuration breaks a rule, or has no network of a name that is asked for; the line is `refused` and which
   8  standard output could not be written
   9  there was no memory
-A document is what `overlay compile` takes, for `why` what `overlay reach` takes, and for `expect` that with `expect` in
-each packet;
-docs/FORMATS.md has their form, and that of the lines.
+A document is what `overlay compile` takes, for `why` what `overlay reach` takes, for `expect` that with `expect` in each
+packet, and for `hitless` that of `compile` with `edits`, each as in an event of `overlay run`; docs/FORMATS.md has their form,
+and that of the lines.
 ";
 
 /// What is asked of `main` itself, before the top call.

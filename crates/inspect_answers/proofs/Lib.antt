@@ -7,5 +7,5 @@ mod Otherwise
 mod Taken
 mod TookIdle
 mod TookReasons
-mod Keeping
+mod JudgedEdits
 mod Changed

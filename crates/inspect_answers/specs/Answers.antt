@@ -17,6 +17,7 @@ use Rattle.compile_answers.specs.declared.unfit.Reception.{Reception}
 use Rattle.compile_answers.specs.declared.unfit.Reception.TheVariants as Received
 use Rattle.compile_answers.specs.declared.unfit.Unfit.{Unfit}
 use Rattle.compile_answers.specs.declared.unfit.Unfit.TheVariants as unfit
+use Rattle.hitless_answers.specs.Answers.{hitless_answer}
 use Rattle.inspect_answers.specs.Expectations.{ExpectInput, Expectation, expect_at}
 use Rattle.inspect_answers.specs.Expecting.{all_met, expect_text}
 use Rattle.inspect_answers.specs.Explained.{why_text}
@@ -156,3 +157,4 @@ answer (Asks.Ways pairs) octets = ways_answer pairs octets
 answer Asks.Expect octets = expect_answer octets
 answer Asks.Unused octets = unused_answer octets
 answer Asks.Why octets = why_answer octets
+answer Asks.Hitless octets = judged (hitless_answer octets)

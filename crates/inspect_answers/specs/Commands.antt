@@ -17,7 +17,8 @@ asked_alone word =
     if is_ways word then Some (Asks.Ways All)
     else (if pointwise nat_eq word (codes "expect") then Some Asks.Expect
     else (if pointwise nat_eq word (codes "unused") then Some Asks.Unused
-    else (if pointwise nat_eq word (codes "why") then Some Asks.Why else None)))
+    else (if pointwise nat_eq word (codes "why") then Some Asks.Why
+    else (if pointwise nat_eq word (codes "hitless") then Some Asks.Hitless else None))))
 
 -- the ways between two networks of these names, which differ
 abbrev pub asked_between : Option (List ℕ) → Option (List ℕ) → Option Asked

@@ -1,5 +1,6 @@
 -- How a run ends, by what was asked and by the octets that its source held.
 use Rattle.std.specs.Prelude.{◌≡◌, ℕ, ◌≤◌, List, length, Option, Some, None, ⊤}
+use Rattle.hitless_answers.specs.Promise.{TookJudgements}
 use Rattle.inspect_answers.specs.Answers.{answer}
 use Rattle.inspect_answers.specs.Explained.{TookExplained}
 use Rattle.inspect_answers.specs.Unused.{TookUnused}
@@ -90,3 +91,4 @@ Keeps (Asks.Ways pairs) status octets old new = (status ≡ Ended.Done) × TookW
 Keeps Asks.Expect status octets old new = TookExpected status octets old new
 Keeps Asks.Unused status octets old new = (status ≡ Ended.Done) × TookUnused octets old new
 Keeps Asks.Why status octets old new = (status ≡ Ended.Done) × TookExplained octets old new
+Keeps Asks.Hitless status octets old new = (status ≡ Ended.Done) × TookJudgements octets old new

@@ -10,6 +10,7 @@ ghost use Rattle.inspect_changes.specs.Lines.{ways_text};
 ghost use Rattle.inspect_answers.specs.Runs.{Keeps, status_of};
 
 use crate::asked::Asked;
+use crate::editing::answer_edits;
 use crate::expecting::answer_expect;
 use crate::explaining::answer_why;
 use crate::idle_answer::answer_unused;
@@ -114,7 +115,7 @@ fn answer_ways<K: Sink>(
 }
 
 /// Writes what is answered to an input.
-#[tactic(auto, using(crate::proofs::Keeping::keeps))]
+#[tactic(auto, using(crate::proofs::Told::took_ways, crate::proofs::Taken::took_expected, crate::proofs::TookIdle::took_unused, crate::proofs::TookReasons::took_explained))]
 pub(crate) fn answer<K: Sink>(
     alloc: Global,
     asked: &Asked,
@@ -134,5 +135,6 @@ pub(crate) fn answer<K: Sink>(
         Asked::Expect => answer_expect(alloc, octets, sink),
         Asked::Unused => answer_unused(alloc, octets, sink),
         Asked::Why => answer_why(alloc, octets, sink),
+        Asked::Hitless => answer_edits(alloc, octets, sink),
     }
 }

@@ -17,6 +17,8 @@ pub enum Asked {
     Unused,
     /// What the outcomes of packets come of.
     Why,
+    /// Which packets each of some edits interrupts.
+    Hitless,
 }
 
 /// What the words after the program's name ask of a document: a command and the document's file, and, for `ways`, none
@@ -48,6 +50,7 @@ fn asked_alone(command: &str) -> Option<Asked>
         "expect" => Some(Asked::Expect),
         "unused" => Some(Asked::Unused),
         "why" => Some(Asked::Why),
+        "hitless" => Some(Asked::Hitless),
         _ => None,
     }
 }

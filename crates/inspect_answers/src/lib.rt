@@ -7,6 +7,7 @@ mod answering;
 mod asked;
 mod comparing;
 mod diffing;
+mod editing;
 mod expect_lines;
 mod expect_reader;
 mod expectation;

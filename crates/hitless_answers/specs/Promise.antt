@@ -1,0 +1,52 @@
+-- What is promised of what `hitless` says.
+use Rattle.std.specs.Prelude.{◌≡◌, ◌↔◌, ℕ, List, [], ◌∷◌, Option, Some, None, Ok, ⊤}
+use Rattle.std.specs.List.{All}
+use Rattle.std.specs.Io.KnownBytes.{Appends}
+use Rattle.config_types.specs.declared.edit.Edit.{Edit}
+use Rattle.config_check.specs.Checked.{Checked}
+use Rattle.config_check.specs.Edits.{edited}
+use Rattle.compile_answers.specs.Answers.{AreDocument}
+use Rattle.hitless_laws.specs.Keeping.{IsHitless, IsValidAsWritten}
+use Rattle.hitless_cells.specs.Interrupted.{EachHasLine, IsInterrupted}
+use Rattle.hitless_cells.specs.declared.lines.Interruption.{Interruption}
+use Rattle.hitless_answers.specs.Judging.{Standing, fault_in, standing_first, standing_next}
+use Rattle.hitless_answers.specs.Lines.{lines_from}
+use Rattle.hitless_answers.specs.Reading.{hitless_at}
+use Rattle.hitless_answers.specs.declared.input.HitlessInput.{HitlessInput}
+use Rattle.hitless_answers.specs.declared.judging.Judgement.{Judgement}
+use Rattle.hitless_answers.specs.declared.judging.Judgement.TheVariants.{Refused, Made}
+
+-- an edit is accepted, it has no line exactly where the change is hitless, each line is of a packet that the change interrupts,
+-- and each such packet has a line
+pub record IsMade (s : Standing) (e : Edit) (lines : List Interruption) : Type 0 where
+  pub accepted : fault_in e s ≡ None
+  pub valid : IsValidAsWritten (edited e s.checked)
+  pub hitless : (lines ≡ []) ↔ IsHitless s.checked (edited e s.checked)
+  pub interrupted : All (IsInterrupted s.checked (edited e s.checked)) lines
+  pub each : EachHasLine s.checked (edited e s.checked) lines
+
+-- what is said of an edit: it is refused for its fault, or made
+abbrev pub IsSaidOf : Standing → Edit → Judgement → Type 0
+IsSaidOf s e (Refused fault) = fault_in e s ≡ Some fault
+IsSaidOf s e (Made lines) = IsMade s e lines
+
+-- of edits one after the other, each of what the accepted ones before it made
+abbrev pub AreSaidOf : Standing → List Edit → List Judgement → Type 0
+AreSaidOf s [] [] = ⊤
+AreSaidOf s [] (j ∷ js) = ⊥
+AreSaidOf s (e ∷ es) [] = ⊥
+AreSaidOf s (e ∷ es) (j ∷ js) = IsSaidOf s e j × AreSaidOf (standing_next e s) es js
+
+-- the opening configuration of an input, with its topology
+abbrev pub opening_of : HitlessInput → Checked
+opening_of r = record { topology = r.input.topology; config = r.input.config }
+
+-- octets are a document of this input, its configuration is valid, and what was taken is the lines of what is said of its edits,
+-- which count from 1
+pub record TookJudgements (octets : List ℕ) (old new : Option (List ℕ)) : Type 0 where
+  pub input : HitlessInput
+  pub read : AreDocument octets (λ d. hitless_at [] d ≡ Ok input)
+  pub valid : IsValidAsWritten (opening_of input)
+  pub judgements : List Judgement
+  pub taken : Appends old new (lines_from 1 judgements)
+  pub said : AreSaidOf (standing_first (opening_of input)) input.edits judgements

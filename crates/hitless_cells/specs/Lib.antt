@@ -1,0 +1,7 @@
+-- The files of definitions, in the order in which they stand on each other.
+pub mod Courses
+pub mod Openings
+pub mod Ends
+pub mod Cells
+pub mod Lines
+pub mod Interrupted
