@@ -7,7 +7,6 @@ use Rattle.ov_types.specs.declared.packet.Packet.{Packet}
 use Rattle.ov_types.specs.declared.packet.Tuple.{Tuple}
 use Rattle.ov_types.specs.declared.prefix.Addr.{Addr}
 use Rattle.ov_types.proofs.FirstLemmas.{contains_here}
-use Rattle.config_types.specs.declared.config.Network.{Network}
 use Rattle.policy_rules.proofs.Lists.{is_joined, joined_is}
 use Rattle.policy_regions.specs.Parts.{IsTuple}
 use Rattle.config_check.specs.Checked.{Checked}
@@ -42,7 +41,7 @@ use Rattle.hitless_cells.proofs.Saying.{says_so}
 use Rattle.hitless_cells.proofs.Sameness.{both_true, same_number}
 use Rattle.hitless_cells.proofs.Sides.{Led, Side, led_by, leads_to}
 
-option_one : {A : Type 0} (o : Option A) (z : A) → Contains (option_to_list o) z → o ≡ Some z
+pub option_one : {A : Type 0} (o : Option A) (z : A) → Contains (option_to_list o) z → o ≡ Some z
 option_one None z at = nothing z at
 option_one (Some y) z at = ap Some (sole y z at)
 

@@ -10,3 +10,4 @@ pub mod Joined
 pub mod Best
 pub mod Ordered
 pub mod Exactly
+pub mod Staying

@@ -5,3 +5,4 @@ pub mod Ends
 pub mod Cells
 pub mod Lines
 pub mod Interrupted
+pub mod Steady

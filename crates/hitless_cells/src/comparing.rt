@@ -10,11 +10,12 @@ use crate::ends::{Ends, ends_of};
 use crate::joints::Meeting;
 use crate::lines::{Interruption, push_lines};
 use crate::openings::Between;
+use crate::steady::is_steady;
 use config_check::Valid;
 use ov_types::{Items, NoMemory};
 use std::alloc::Global;
 
-/// Appends the lines of the ports of two networks.
+/// Appends the lines of the ports of two networks. Where their ways and ports stay as they are, there is none.
 fn push_between(
     alloc: Global,
     lines: &mut Vec<Interruption>,
@@ -26,6 +27,9 @@ fn push_between(
 ) -> Result<(), NoMemory>
     ensures { OnOk result (lines.new.items ≡ lines.old.items ++ lines_between before.now after.now from.now to.now) }
 {
+    if is_steady(before, after, from, to) {
+        return Ok(());
+    }
     let before = Between {
         valid: before,
         own: &from.before,

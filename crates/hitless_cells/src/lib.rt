@@ -10,6 +10,7 @@ mod ends;
 mod joints;
 mod lines;
 mod openings;
+mod steady;
 mod stops;
 mod uses;
 
