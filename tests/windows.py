@@ -4,12 +4,13 @@
 Each document is settled, gets one random edit, and then its messages are delivered one by one in a random order. `inspect hitless`
 says of the edit which ordered pairs of ports have a packet that is not kept. Every packet of another pair that the policies deliver
 before and after, to one port, is to be delivered there after each event: as the policies before have it, or as those after do.
-Of the source port of a packet the edit keeps the address, or else it is left out.
+The edit may give the source port of a packet another address.
 
-usage: tests/windows.py INSPECT OVERLAY [COUNT [SEED]]
+usage: tests/windows.py INSPECT OVERLAY [COUNT [SEED [DEPTH]]]
 
-INSPECT and OVERLAY are the built programs, COUNT is how many changes are tried (50 where none is given). Needs Python 3.8. Ends with
-status 1 where something is otherwise.
+INSPECT and OVERLAY are the built programs, COUNT is how many changes are tried (50 where none is given). With DEPTH the first messages
+behind each edit, as many as that, are delivered in every order that there is, and those behind them in a random one. Needs
+Python 3.8. Ends with status 1 where something is otherwise.
 """
 import copy
 import json
@@ -55,6 +56,8 @@ def edits_of(doc, chance):
         del it["rules"][chance.randint(1, len(it["rules"])) :]
     elif kind == "chains":
         it["hops"] = chance.sample(["s1", "s2", "s3"], chance.randint(1, 2))
+    elif kind == "ports" and chance.randrange(2):
+        it["address"] = it["address"].rsplit(".", 1)[0] + f".{chance.randint(1, 9)}"
     else:
         it["node"] = chance.choice(["n1", "n2", "n3"])
     return {"put": {word: it}}
@@ -100,7 +103,51 @@ def after(doc, edit):
     return made
 
 
-def tried(inspect, overlay, chance):
+def takes(overlay, doc, edit, order):
+    """Whether the last of these deliveries behind the edit takes a message."""
+    events = ["settle", {"edit": edit}, *({"deliver": [a, b, 1]} for a, b in order)]
+    _, lines = answered(overlay, ["run"], {"topology": doc["topology"], "configuration": doc["configuration"], "events": events})
+    return lines[-1].endswith(" did")
+
+
+def orders_of(overlay, doc, edit, depth, order=()):
+    """Every order in which the first messages behind the edit are delivered, as many as the depth, or all where there are fewer."""
+    if depth == 0:
+        return [order]
+    longer = [(*order, pair) for pair in sessions_of(doc)]
+    found = [one for it in longer if takes(overlay, doc, edit, it) for one in orders_of(overlay, doc, edit, depth - 1, it)]
+    return found or [order]
+
+
+def deliveries_of(doc, order, chance):
+    """The deliveries of an order, and behind them those of some rounds, in a random order."""
+    events = [{"deliver": [a, b, 1]} for a, b in order]
+    for _ in range(ROUNDS):
+        sessions = sessions_of(doc)
+        chance.shuffle(sessions)
+        events += [{"deliver": [a, b, chance.choice([1, 1, 3])]} for a, b in sessions]
+    return events
+
+
+def watched(overlay, doc, edit, deliveries, kept):
+    """What is otherwise while these deliveries follow the edit: after each every kept packet is traced."""
+    traces = [{"trace": packet} for packet, _ in kept]
+    events = ["settle", {"edit": edit}, *(event for it in deliveries for event in (it, *traces))]
+    status, lines = answered(overlay, ["run"], {"topology": doc["topology"], "configuration": doc["configuration"], "events": events})
+    if status:
+        return [f"run ended with status {status}: {lines}"]
+    said = {int(it.split(" ", 1)[0]): it.split(" ", 1)[1] for it in lines}
+    places = range(3, 3 + len(deliveries) * (1 + len(kept)), 1 + len(kept))
+    return [
+        f"{json.dumps(packet)} is {said[place + offset]} and not of {sorted(fine)} at event {place + offset} of "
+        f"{json.dumps({**doc, 'events': events})}"
+        for place in places
+        for offset, (packet, fine) in enumerate(kept, 1)
+        if said[place + offset] not in fine
+    ]
+
+
+def tried(inspect, overlay, chance, depth):
     """What is otherwise in one change, how many traces there were, and whether the change was hitless."""
     doc = spread(peopled(chance), chance)
     packets, edit = packets_of(doc, chance), edits_of(doc, chance)
@@ -121,30 +168,18 @@ def tried(inspect, overlay, chance):
         if one.startswith("delivered") and two.split(" services")[0] == one.split(" services")[0]
         and (packet["port"], numbers[packet["to"]]) not in hit
     ]
-    traces = [{"trace": packet} for packet, _ in kept]
-    events = ["settle", {"edit": edit}]
-    for _ in range(ROUNDS):
-        sessions = sessions_of(doc)
-        chance.shuffle(sessions)
-        for a, b in sessions:
-            events += [{"deliver": [a, b, chance.choice([1, 1, 3])]}, *traces]
-    status, lines = answered(overlay, ["run"], {"topology": doc["topology"], "configuration": doc["configuration"], "events": events})
-    if status:
-        return [f"run ended with status {status}: {lines}"], 0, None
-    said = {int(it.split(" ", 1)[0]): it.split(" ", 1)[1] for it in lines}
-    wrong, place = [], 3
-    for _ in range(ROUNDS * len(sessions_of(doc))):
-        for offset, (packet, fine) in enumerate(kept, 1):
-            if said[place + offset] not in fine:
-                wrong.append(f"{json.dumps(packet)} is {said[place + offset]} and not of {sorted(fine)} at event {place + offset} of {json.dumps({**doc, 'edit': edit})}")
-        place += 1 + len(kept)
-    return wrong[:3], len(kept) * ROUNDS * len(sessions_of(doc)), not hit
+    wrong, traces = [], 0
+    for order in orders_of(overlay, doc, edit, depth):
+        deliveries = deliveries_of(doc, order, chance)
+        wrong += watched(overlay, doc, edit, deliveries, kept)
+        traces += len(kept) * len(deliveries)
+    return wrong[:3], traces, not hit
 
 
-def main(inspect, overlay, count=50, seed=1):
+def main(inspect, overlay, count=50, seed=1, depth=0):
     chance, faults, traces, kinds = random.Random(seed), 0, 0, {True: 0, False: 0, None: 0}
     for _ in range(count):
-        wrong, many, kind = tried(inspect, overlay, chance)
+        wrong, many, kind = tried(inspect, overlay, chance, depth)
         print(*wrong, sep="\n", end="\n" if wrong else "")
         faults, traces, kinds[kind] = faults + len(wrong), traces + many, kinds[kind] + 1
     print(f"{count} changes, {kinds[True]} hitless, {kinds[False]} not, {kinds[None]} refused: {traces:,} traces of kept packets, {faults} faults")

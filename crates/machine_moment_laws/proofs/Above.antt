@@ -1,5 +1,5 @@
 -- What a map has that has all of another: its attachments, its slices and what they need.
-use Rattle.std.specs.Prelude.{◌≡◌, List, ◌∷◌, is_some, true}
+use Rattle.std.specs.Prelude.{◌≡◌, List, [], ◌∷◌, is_some, true}
 use Rattle.std.specs.declared.option.Option.{Option}
 use Rattle.std.specs.declared.option.Option.TheVariants.{Some, None}
 use Rattle.std.specs.FinMap.{get}
@@ -25,13 +25,18 @@ use Rattle.node_laws.proofs.NodeModel.Wanted.{slice_is}
 use Rattle.machine_model.specs.Setup.{low_in, opening}
 use Rattle.machine_model.proofs.Feed.{objects-low}
 use Rattle.machine_laws.specs.Compiled.{Attachment, as_attachment, attachments}
-use Rattle.machine_moment_laws.specs.Common.{common}
+use Rattle.machine_moment_laws.specs.Common.{common, placed}
 use Rattle.machine_moment_laws.proofs.OfSome.{AllOfSome, EntryOfSome, ObjectOfSome}
 use Rattle.machine_moment_laws.proofs.Parts.{IsAbove, IsPartOf, common_is_part, object_is}
+use Rattle.machine_moment_laws.proofs.Placed.{IsPlacedAs, IsPlacedIn, placed_in}
 
 -- ---- a held map whose objects are of some configuration, and which has each key of the common part
 object_from : (c : Checked) (k : LowKey) (v : LowValue) → Member (k, v) (low_objects c.topology c.config) → object (low_in c) k ≡ Some v
 object_from c k v m = ap as_object (object_of (low_in c) k v (subst (λ (os : List (LowKey × LowValue)). Member (k, v) os) (sym (objects-low (opening c))) m))
+
+-- the objects of a list are had by another, but for the addresses of ports
+abbrev pub ListPlaced : List (LowKey × LowValue) → List (LowKey × LowValue) → Type 0
+ListPlaced xs ys = (k : LowKey) (w : LowValue) → Member (k, w) xs → (v : LowValue) × Member (k, v) ys × IsPlacedAs w v
 
 module _ (b : Checked) (ds : List Checked) where
   abbrev cs : List Checked
@@ -42,15 +47,27 @@ module _ (b : Checked) (ds : List Checked) where
       let p = common_is_part b ds q.0 q.1 k w h in
       subst (IsPartOf w) (same_Some p.0 v (sym p.1 ∙ object_from q.0 k v q.2)) p.2
 
-  pub value_above : (f : Map) (k : LowKey) (w : LowValue) → object (common cs) k ≡ Some w → (o : Option Value) → get f (Low k) ≡ o → is_some o ≡ true → ((u : Value) → o ≡ Some u → EntryOfSome cs (Low k) u) → (v : LowValue) × (object f k ≡ Some v) × IsPartOf w v
-  value_above f k w h (Some (Object v)) is e some = (v, ap as_object is, stood_above k w v h (some (Object v) refl))
-  value_above f k w h (Some (Route r)) is e some = absurd (some (Route r) refl)
-  value_above f k w h (Some (Entry r)) is e some = absurd (some (Entry r) refl)
-  value_above f k w h (Some (Label l)) is e some = absurd (some (Label l) refl)
-  value_above f k w h None is e some = absurd (cc e)
+  pub stood_placed : (k : LowKey) (w v : LowValue) → object (placed cs) k ≡ Some w → ObjectOfSome cs k v → IsPlacedAs w v
+  stood_placed k w v h q =
+      let p = placed_in b ds q.0 q.1 k w h in
+      subst (IsPlacedAs w) (same_Some p.0 v (sym p.1 ∙ object_from q.0 k v q.2)) p.2
+
+  pub value_of_some : (f : Map) (k : LowKey) (o : Option Value) → get f (Low k) ≡ o → is_some o ≡ true → ((u : Value) → o ≡ Some u → EntryOfSome cs (Low k) u) → (v : LowValue) × (object f k ≡ Some v) × ObjectOfSome cs k v
+  value_of_some f k (Some (Object v)) is e some = (v, ap as_object is, some (Object v) refl)
+  value_of_some f k (Some (Route r)) is e some = absurd (some (Route r) refl)
+  value_of_some f k (Some (Entry r)) is e some = absurd (some (Entry r) refl)
+  value_of_some f k (Some (Label l)) is e some = absurd (some (Label l) refl)
+  value_of_some f k None is e some = absurd (cc e)
 
   pub held_above : (f : Map) → ((k : LowKey) → is_some (object (common cs) k) ≡ true → is_some (get f (Low k)) ≡ true) → AllOfSome cs f → IsAbove (common cs) f
-  held_above f has some k w h = value_above f k w h (get f (Low k)) refl (has k (ap is_some h)) (λ u e. some (Low k) u e)
+  held_above f has some k w h =
+      let q = value_of_some f k (get f (Low k)) refl (has k (ap is_some h)) (λ u e. some (Low k) u e) in
+      (q.0, q.1, stood_above k w q.0 h q.2)
+
+  pub held_placed : (f : Map) → ((k : LowKey) → is_some (object (placed cs) k) ≡ true → is_some (get f (Low k)) ≡ true) → AllOfSome cs f → IsPlacedIn (placed cs) f
+  held_placed f has some k w h =
+      let q = value_of_some f k (get f (Low k)) refl (has k (ap is_some h)) (λ u e. some (Low k) u e) in
+      (q.0, q.1, stood_placed k w q.0 h q.2)
 
 -- ---- attachments and slices
 pub attached_same : (k : LowKey) (w v : LowValue) (a : Attachment) → as_attachment k w ≡ Some a → IsPartOf w v → w ≡ v
@@ -76,53 +93,67 @@ module _ (m f : Map) (above : IsAbove m f) where
       let same = attached_same q.0.0 q.0.1 p.0 a q.2 p.2 in
       in_filter_map (λ (e : LowKey × LowValue). as_attachment e.0 e.1) (q.0.0, p.0) a (objects f) p.1 (ap (as_attachment q.0.0) (sym same) ∙ q.2)
 
-  port_same : (address : Addr) (w v : LowValue) (i : InstanceId) → port_at address w ≡ Some i → IsPartOf w v → w ≡ v
-  port_same address (low.AttachPort p j x n) v i e h = h
-  port_same address (low.AttachCircuit c s n) v i e h = h
-  port_same address (low.Instance is) v i e h = absurd (none_some i e)
-  port_same address (low.Acl s r) v i e h = absurd (none_some i e)
-  port_same address (low.ChainUse x y c d g) v i e h = absurd (none_some i e)
+-- ---- slices, but for the addresses of ports
+port_same : (address : Addr) (w v : LowValue) (i : InstanceId) → port_at address w ≡ Some i → IsPlacedAs w v → port_at address v ≡ Some i
+port_same address (low.AttachPort p j x n) (low.AttachPort q k y o) i e h = (λ t. port_at address (low.AttachPort q (sym h.1.0 t) y (sym h.1.1 t))) ∙ e
+port_same address (low.AttachPort p j x n) (low.AttachCircuit c s o) i e h = absurd h
+port_same address (low.AttachPort p j x n) (low.Instance is) i e h = absurd h
+port_same address (low.AttachPort p j x n) (low.Acl s r) i e h = absurd h
+port_same address (low.AttachPort p j x n) (low.ChainUse l r ls rs hops) i e h = absurd h
+port_same address (low.AttachCircuit c s n) v i e h = absurd (none_some i e)
+port_same address (low.Instance is) v i e h = absurd (none_some i e)
+port_same address (low.Acl s r) v i e h = absurd (none_some i e)
+port_same address (low.ChainUse x y c d g) v i e h = absurd (none_some i e)
 
-  at_above : (address : Addr) (w v : LowValue) → IsAttachedAt address w → IsPartOf w v → IsAttachedAt address v
-  at_above address (low.AttachPort p i x n) v h is = subst (IsAttachedAt address) is h
-  at_above address (low.AttachCircuit c s n) v h is = subst (IsAttachedAt address) is h
-  at_above address (low.Instance js) v h is = absurd h
-  at_above address (low.Acl s r) v h is = absurd h
-  at_above address (low.ChainUse x y c d g) v h is = absurd h
+pub at_placed : (address : Addr) (w v : LowValue) → IsAttachedAt address w → IsPlacedAs w v → IsAttachedAt address v
+at_placed address (low.AttachPort p i x n) (low.AttachPort q j y o) h is = sym is.1.1 ∙ h
+at_placed address (low.AttachPort p i x n) (low.AttachCircuit c s o) h is = absurd is
+at_placed address (low.AttachPort p i x n) (low.Instance js) h is = absurd is
+at_placed address (low.AttachPort p i x n) (low.Acl s r) h is = absurd is
+at_placed address (low.AttachPort p i x n) (low.ChainUse l r ls rs hops) h is = absurd is
+at_placed address (low.AttachCircuit c s n) v h is = subst (IsAttachedAt address) is h
+at_placed address (low.Instance js) v h is = absurd h
+at_placed address (low.Acl s r) v h is = absurd h
+at_placed address (low.ChainUse x y c d g) v h is = absurd h
 
-  belongs_above : (address : Addr) (k : LowKey) (w v : LowValue) → BelongsTo m address k w → IsPartOf w v → BelongsTo f address k v
-  belongs_above address (key.Attach l) w v h is = at_above address w v h is
-  belongs_above address (key.Acl x y) w v h is =
-      let q = object_above h.name h.port h.held in
-      let same = port_same address h.port q.0 (record { 0 = x }) h.port_is q.2 in
-      record { name = h.name; port = q.0; held = q.1; port_is = ap (port_at address) (sym same) ∙ h.port_is }
-  belongs_above address (key.Instance n) w v h is = absurd h
-  belongs_above address (key.ChainUse u) w v h is = absurd h
+module _ (m f : Map) (placed_there : IsPlacedIn m f) where
+  object_placed : (k : LowKey) (w : LowValue) → Member (k, w) (objects m) → (v : LowValue) × Member (k, v) (objects f) × IsPlacedAs w v
+  object_placed k w h =
+      let q = placed_there k w (ap as_object (object_of m k w h)) in
+      (q.0, in_objects f k q.0 (object_is f k q.0 q.1), q.2)
 
-  pub slice_above : (address : Addr) (k : LowKey) (w : LowValue) → Member (k, w) (slice m address) → (v : LowValue) × Member (k, v) (slice f address) × IsPartOf w v
-  slice_above address k w h =
+  belongs_placed : (address : Addr) (k : LowKey) (w v : LowValue) → BelongsTo m address k w → IsPlacedAs w v → BelongsTo f address k v
+  belongs_placed address (key.Attach l) w v h is = at_placed address w v h is
+  belongs_placed address (key.Acl x y) w v h is =
+      let q = object_placed h.name h.port h.held in
+      record { name = h.name; port = q.0; held = q.1; port_is = port_same address h.port q.0 (record { 0 = x }) h.port_is q.2 }
+  belongs_placed address (key.Instance n) w v h is = absurd h
+  belongs_placed address (key.ChainUse u) w v h is = absurd h
+
+  pub slice_placed : (address : Addr) → ListPlaced (slice m address) (slice f address)
+  slice_placed address k w h =
       let s = (slice_is m address k w).0 h in
-      let q = object_above k w s.0 in
-      (q.0, (slice_is f address k q.0).1 (q.1, belongs_above address k w q.0 s.1 q.2), q.2)
+      let q = object_placed k w s.0 in
+      (q.0, (slice_is f address k q.0).1 (q.1, belongs_placed address k w q.0 s.1 q.2), q.2)
 
 -- ---- what a slice needs
-pub needed_part : (w v : LowValue) (i : InstanceId) → IsPartOf w v → Member i (needed_for w) → Member i (needed_for v)
-needed_part (low.AttachPort p j x n) v i is h = subst (λ (v : LowValue). Member i (needed_for v)) is h
-needed_part (low.AttachCircuit c s n) v i is h = subst (λ (v : LowValue). Member i (needed_for v)) is h
-needed_part (low.Acl ss rs) (low.Acl ts qs) i is h = is.1 i h
-needed_part (low.Acl ss rs) (low.Instance js) i is h = absurd is
-needed_part (low.Acl ss rs) (low.AttachPort p j x n) i is h = absurd is
-needed_part (low.Acl ss rs) (low.AttachCircuit c s n) i is h = absurd is
-needed_part (low.Acl ss rs) (low.ChainUse x y c d g) i is h = absurd is
-needed_part (low.Instance js) v i is h = absurd h
-needed_part (low.ChainUse x y c d g) v i is h = absurd h
+needed_placed : (w v : LowValue) (i : InstanceId) → IsPlacedAs w v → Member i (needed_for w) → Member i (needed_for v)
+needed_placed (low.AttachPort p j x n) (low.AttachPort q k y o) i is h = subst (λ (j : InstanceId). Member i (j ∷ [])) is.1.0 h
+needed_placed (low.AttachPort p j x n) (low.AttachCircuit c s o) i is h = absurd is
+needed_placed (low.AttachPort p j x n) (low.Instance js) i is h = absurd is
+needed_placed (low.AttachPort p j x n) (low.Acl s r) i is h = absurd is
+needed_placed (low.AttachPort p j x n) (low.ChainUse l r ls rs hops) i is h = absurd is
+needed_placed (low.AttachCircuit c s n) v i is h = subst (λ (v : LowValue). Member i (needed_for v)) is h
+needed_placed (low.Acl ss rs) (low.Acl ts qs) i is h = is.1 i h
+needed_placed (low.Acl ss rs) (low.Instance js) i is h = absurd is
+needed_placed (low.Acl ss rs) (low.AttachPort p j x n) i is h = absurd is
+needed_placed (low.Acl ss rs) (low.AttachCircuit c s n) i is h = absurd is
+needed_placed (low.Acl ss rs) (low.ChainUse x y c d g) i is h = absurd is
+needed_placed (low.Instance js) v i is h = absurd h
+needed_placed (low.ChainUse x y c d g) v i is h = absurd h
 
--- the objects of a list are had by another
-abbrev pub ListAbove : List (LowKey × LowValue) → List (LowKey × LowValue) → Type 0
-ListAbove xs ys = (k : LowKey) (w : LowValue) → Member (k, w) xs → (v : LowValue) × Member (k, v) ys × IsPartOf w v
-
-pub needed_above : (xs ys : List (LowKey × LowValue)) → ListAbove xs ys → (i : InstanceId) → Member i (needed_by xs) → Member i (needed_by ys)
+pub needed_above : (xs ys : List (LowKey × LowValue)) → ListPlaced xs ys → (i : InstanceId) → Member i (needed_by xs) → Member i (needed_by ys)
 needed_above xs ys above i h =
     let q = from_flat_map (λ (e : LowKey × LowValue). needed_for e.1) i xs h in
     let p = above q.0.0 q.0.1 q.1 in
-    in_flat_map (λ (e : LowKey × LowValue). needed_for e.1) (q.0.0, p.0) i ys p.1 (needed_part q.0.1 p.0 i p.2 q.2)
+    in_flat_map (λ (e : LowKey × LowValue). needed_for e.1) (q.0.0, p.0) i ys p.1 (needed_placed q.0.1 p.0 i p.2 q.2)

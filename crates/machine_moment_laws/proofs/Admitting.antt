@@ -24,8 +24,7 @@ use Rattle.machine_model.specs.Events.{agent_rows as held_by_agent}
 use Rattle.machine_model.specs.Network.{MachineState, start}
 use Rattle.machine_moment_laws.specs.Arriving.{StandsNow, VerdictsAreOfSome}
 use Rattle.config_types.specs.declared.topology.Node.{Node}
-use Rattle.machine_laws.specs.Compiled.{agent_rows as common_rows}
-use Rattle.machine_moment_laws.specs.Common.{AccessListsAreOfSome, common, rows_at, standing}
+use Rattle.machine_moment_laws.specs.Common.{AccessListsAreOfSome, rows_at, rows_in_common, standing}
 use Rattle.machine_moment_laws.specs.Windows.{AtMomentsOfWindows, configurations}
 use Rattle.machine_moment_laws.proofs.AccessLists.{access_lists_are_of_some}
 use Rattle.machine_moment_laws.proofs.Arriving.{one_object, present_stands}
@@ -111,7 +110,7 @@ one_list : (h : agent.Holdings) (k : LowKey) (v w : LowValue) → Member (k, v) 
 one_list h k v w in_v in_w = one_object h k v w (in_slice h k v in_v) (in_slice h k w in_w)
 
 abbrev pub ListsStay : List Checked → MachineState → Type 0
-ListsStay cs w = (n : Node) → Member n (standing cs) → (k : LowKey) (v : LowValue) → Member (k, v) (common_rows (common cs) n.address).acls → (u : LowValue) × Member (k, u) (rows_at w n).acls
+ListsStay cs w = (n : Node) → Member n (standing cs) → (k : LowKey) (v : LowValue) → Member (k, v) (rows_in_common cs n.address).acls → (u : LowValue) × Member (k, u) (rows_at w n).acls
 
 pub verdicts : (cs : List Checked) (w : MachineState) → StandsNow cs w → ListsStay cs w → AccessListsAreOfSome cs w → VerdictsAreOfSome cs w
 unfolding verdict

@@ -15,7 +15,6 @@ use Rattle.ov_types.specs.declared.objects.LowKey.TheVariants as key
 use Rattle.ov_types.specs.declared.objects.LowValue.TheVariants as low
 use Rattle.ov_types.specs.declared.packet.Outcome.TheVariants.{Delivered}
 use Rattle.ov_types.specs.declared.packet.Packet.{Packet}
-use Rattle.ov_types.specs.declared.prefix.Addr.{Addr}
 use Rattle.ov_types.specs.declared.verdict.Verdict.{Verdict}
 use Rattle.ov_types.specs.declared.verdict.Verdict.TheVariants as Says
 use Rattle.route_targets.specs.Forwarding.{Forwarder, admitted, departed, forwarding, walk}
@@ -43,8 +42,8 @@ use Rattle.machine_moment_laws.specs.Arriving.{GoesOnIn, HeadsInCommon, IsCommon
 use Rattle.machine_moment_laws.specs.Recovery.{AtMomentsSince, rounds_in}
 use Rattle.machine_moment_laws.proofs.Back.{go_the_way_again, starts_again, verdicts_again}
 use Rattle.machine_moment_laws.proofs.RecoveryMoments.{all_are_written, first_one, others}
-use Rattle.machine_moment_laws.specs.Kept.{HasOneAddress, IsDeliveredBy, IsInHand}
-use Rattle.machine_moment_laws.proofs.Ends.{AllOffer, SourceStays, few_visited, goes_on, heads, start_of, starts, way_of}
+use Rattle.machine_moment_laws.specs.Kept.{IsDeliveredBy, IsInHand}
+use Rattle.machine_moment_laws.proofs.Ends.{AllOffer, few_visited, goes_on, heads, start_of, starts, way_of}
 use Rattle.machine_moment_laws.proofs.Made.{valid}
 use Rattle.machine_moment_laws.specs.Again.{KeptAreDeliveredAgain, VisitAtMost}
 
@@ -73,7 +72,7 @@ passes_on agents d f from i (Says.Denied rule) h = absurd h
 passes_on agents d f from i Says.NoDestination h = absurd h
 
 module _ (b : Checked) (ds : List Checked) (written : (c : Checked) → Member c (b ∷ ds) → IsWritten (opening c)) (p : Packet) (number : PortNo) (ways : List Way)
-    (keep : Keep (b ∷ ds) p number ways) (one : HasOneAddress (b ∷ ds) p.source) (hand : IsInHand (b ∷ ds) p number ways) where
+    (keep : Keep (b ∷ ds) p number ways) (hand : IsInHand (b ∷ ds) p number ways) where
   abbrev cs : List Checked
   cs = b ∷ ds
 
@@ -101,14 +100,6 @@ module _ (b : Checked) (ds : List Checked) (written : (c : Checked) → Member c
   first_offers : AllOffer b ds written p number first.way first.track
   first_offers = offers first.way first.track first.all
 
-  abbrev address : Addr
-  address = (first_offers b (inl refl)).leaves.source.address
-
-  source_stays : SourceStays b ds written p number address
-  source_stays c m q at is =
-      let o = first_offers b (inl refl) in
-      one c b q o.leaves.source (contains_of cs c m) (contains_of cs b (inl refl)) at o.leaves.source_stands is o.leaves.source_number
-
   -- along which it is led by the entries of the list there
   record Led (n : Node) (from to : InstanceId) (rules : List AclRule) : Type 0 where
     by : IsLedBy cs n from to.0 p number rules
@@ -126,8 +117,8 @@ module _ (b : Checked) (ds : List Checked) (written : (c : Checked) → Member c
           instance = start_of t.way t.track;
           goes_on = goes_on c (written c m) p number t.way t.track (o c m) t.leads subnets rules has;
           services = visited t.way t.track;
-          few = few_visited b ds written p number address source_stays t.way t.track o;
-          way = way_of b ds written p number address source_stays t.way t.track o (λ s. hand t.way t.track t.among s t.all);
+          few = few_visited b ds written p number t.way t.track o;
+          way = way_of b ds written p number t.way t.track o (λ s. hand t.way t.track t.among s t.all);
         };
         way = t.way;
         among = t.among;
@@ -161,10 +152,10 @@ module _ (b : Checked) (ds : List Checked) (written : (c : Checked) → Member c
       (subst (λ (k : Node). Led k t.track.from t.track.to rules) near (led_there c m t subnets rules there)))
 
   heads_there : HeadsInCommon cs n from.0 to.0 p.destination.0
-  heads_there = heads b ds written p number first.way first.track first_offers address source_stays
+  heads_there = heads b ds written p number first.way first.track first_offers
 
   starts_there : StartsInCommon cs n from p
-  starts_there = starts b ds written p number first.way first.track first_offers address source_stays
+  starts_there = starts b ds written p number first.way first.track first_offers
 
   -- by the list of one configuration, along its way
   delivered : (w : MachineState) → VerdictsAreOfSome cs w → StartsWhereCommon cs w → (most : ℕ) → VisitAtMost most cs p number ways
@@ -202,16 +193,16 @@ module _ (b : Checked) (ds : List Checked) (written : (c : Checked) → Member c
           (is ∙ sym (visits by.1 p number way track (record { form = written_there.config; valid = written_there.valid }) by.4 (All-contains (λ (x : Checked). Offers x p number way track) cs by.1 all at)))
 
 pub kept_are_delivered_again : AtMomentsSince KeptAreDeliveredAgain
-kept_are_delivered_again size positive x written before asked begins es window form p number ways keep one hand most bound enough =
+kept_are_delivered_again size positive x written before asked begins es window form p number ways keep hand most bound enough =
     let w = after size (after size (start x) before) es in
     let r = rounds_in size (after size (start x) before) es in
     let b = first_one size positive x written before asked begins es window form in
     let ds = others size positive x written before asked begins es window form in
     let valid_all = all_are_written size positive x written before asked begins es window form in
-    delivered b ds valid_all p number ways keep one hand w
+    delivered b ds valid_all p number ways keep hand w
     (verdicts_again size positive x written before asked begins es window form (two most r enough))
     (starts_again size positive x written before asked begins es window form (two most r enough)) most bound
-    (λ i services way short few. go_the_way_again size positive x written before asked begins es window form (n b ds valid_all p number ways keep one hand) i p.destination.0 services number way (within (length services) most r short enough) 64 [] few)
+    (λ i services way short few. go_the_way_again size positive x written before asked begins es window form (n b ds valid_all p number ways keep hand) i p.destination.0 services number way (within (length services) most r short enough) 64 [] few)
   where
     two : (k r : ℕ) → k + 5 ≤ r → 2 ≤ r
     two k r h = omega (arith, h)

@@ -27,7 +27,7 @@ use Rattle.schedule_laws.proofs.Kept.{asked_of_kept, kept, kept_from, same_momen
 use Rattle.machine_moment_laws.specs.Windows.{IsOfWindow, configurations}
 use Rattle.machine_moment_laws.proofs.Beginning.{first_written}
 use Rattle.machine_moment_laws.specs.KeptSchedules.{OfOutcome, configurations_since}
-use Rattle.machine_moment_laws.specs.Recovery.{AreUp, rounds_in}
+use Rattle.machine_moment_laws.specs.Recovery.{NoneIsDown, rounds_in}
 use Rattle.machine_moment_laws.specs.Again.{KeptAreDeliveredAgain, OneDeliversAgain}
 use Rattle.machine_moment_laws.specs.AgainSchedules.{AgainSoFar, DeliversAgainSince, GoesOnSince, IsAgainThroughout, rounds_since}
 use Rattle.machine_moment_laws.proofs.AgainDelivered.{kept_are_delivered_again}
@@ -73,7 +73,7 @@ forms_of_back (suc n) (e ∷ es) forms = forms_of_back n es (and_parts (has_even
 -- ---- a moment
 of_trace : (s : TiedNetwork) (rounds : ℕ) (cs : List Checked) → KeptAreDeliveredAgain rounds cs s.network → OneDeliversAgain rounds cs s.network → (e : Written) → OfOutcome (DeliversAgainSince rounds cs) e (answer_tied s (event_of e))
 of_trace s rounds cs all one (written.Trace p) = record {
-  kept = λ number ways keep stays hand most bound enough. all p number ways keep stays hand most bound enough;
+  kept = λ number ways keep hand most bound enough. all p number ways keep hand most bound enough;
   by_one = λ c is number services delivers enough. one c is p number services delivers enough;
 }
 of_trace s rounds cs all one (written.Edit d) = tt
@@ -118,8 +118,8 @@ module _ (x : Checked) (valid : IsWritten (opening x)) (es : List Written) (form
       subst (EditsAreValid message_size IsOfForm began) (kept_is s (drop since es))
       (edits_of_form (kept_from s (drop since es)) began (kept_forms s (drop since es) (forms_of_back since es forms)) (w.topology, w.config))
 
-  begins : AreUp began
-  begins = subst AreUp same h.begins
+  begins : NoneIsDown began
+  begins = subst NoneIsDown same h.begins
 
   now : (tied_moment x es).network ≡ after message_size s.network then
   now =

@@ -35,12 +35,12 @@ use Rattle.machine_model.specs.Session.{Session}
 use Rattle.machine_model.specs.Setup.{Setup, low_in, opening}
 use Rattle.machine_model.proofs.OvSync.KeyedLaws.{empty_values}
 use Rattle.machine_model.proofs.Twins.{each_weaker}
-use Rattle.machine_laws.specs.Compiled.{Attachment, agent_rows, as_attachment, attachments}
+use Rattle.machine_laws.specs.Compiled.{Attachment, as_attachment, attachments}
 use Rattle.machine_laws.specs.Headline.{IsWritten}
 use Rattle.machine_laws.proofs.Views.{views}
 use Rattle.machine_laws.proofs.Wants.{agent_holds}
 use Rattle.machine_laws.proofs.Written.{sound_setup}
-use Rattle.machine_moment_laws.specs.Common.{ChangesHands, common, standing}
+use Rattle.machine_moment_laws.specs.Common.{ChangesHands, common, rows_in_common, standing}
 use Rattle.machine_moment_laws.proofs.Here.{Here}
 use Rattle.machine_moment_laws.proofs.CommonInUse.{mine_own}
 use Rattle.machine_moment_laws.proofs.OfSome.{AreSomeTo}
@@ -134,13 +134,13 @@ module _ (b : Checked) (ds : List Checked) (written : (c : Checked) → Member c
         (each_weaker (Mine b ds written r x n.name) (λ s. RowsStood cs s.near.held) (λ s q i p h e. q.told (Row i p) (Entry h) e rank) (sessions_of n.name ss) (mine_own b ds written r x ss here lasting_stays some st n stays)))
         i p hop ((route_is held i p hop).0 m).1
 
-    pub alone_in_network : 5 ≤ r → (i : InstanceId) (p q : Block) (hop other : RouteEntry) (d : ℕ) → is_hop i ≡ false → Member (route_at i p hop) (agent_rows M n.address).routes → (ChangesHands cs i p → ⊥) → Member (route_at i q other) (agent.routes held) → contains p d ≡ true → contains q d ≡ true → route_at i q other ≡ route_at i p hop
-    alone_in_network rank i p q hop other d net m keeps there in_p in_q = by (compiled_is M n.address i p hop m)
+    pub alone_in_network : 5 ≤ r → (i : InstanceId) (p q : Block) (hop other : RouteEntry) (d : ℕ) → is_hop i ≡ false → Member (route_at i p hop) (rows_in_common cs n.address).routes → (ChangesHands cs i p → ⊥) → Member (route_at i q other) (agent.routes held) → contains p d ≡ true → contains q d ≡ true → route_at i q other ≡ route_at i p hop
+    alone_in_network rank i p q hop other d net m keeps there in_p in_q = by (compiled_is cs n.address i p hop m)
       where
         told : RowStood cs i q other.next_hop other.label
         told = held_route rank i q other there
 
-        by : IsCompiled M n.address i p hop → route_at i q other ≡ route_at i p hop
+        by : IsCompiled cs n.address i p hop → route_at i q other ≡ route_at i p hop
         by c = elim c.kind as (λ _. route_at i q other ≡ route_at i p hop) [
           | inl h ↦
               let at : q ≡ p = one_host q p d (row_host i q other net told) (subst IsHost h.prefix (host_of M h.to h.attached)) in_q in_p in

@@ -41,10 +41,9 @@ use Rattle.machine_model.specs.Events.{after, forwarders}
 use Rattle.machine_model.specs.Events.{agent_rows as held_by_agent}
 use Rattle.machine_model.specs.Network.{MachineState, start}
 use Rattle.machine_model.specs.Setup.{checked}
-use Rattle.machine_laws.specs.Compiled.{agent_rows}
 use Rattle.machine_laws.specs.Headline.{IsWritten}
 use Rattle.machine_moment_laws.specs.Arriving.{GoesTheCommonWay, LeadsInCommon, StandsNow, agent_at_node}
-use Rattle.machine_moment_laws.specs.Common.{NothingElseLeads, WhatIsCommonStays, common, rows_at, standing}
+use Rattle.machine_moment_laws.specs.Common.{NothingElseLeads, WhatIsCommonStays, rows_at, rows_in_common, standing}
 use Rattle.machine_moment_laws.specs.Windows.{AtMomentsOfWindows, configurations}
 use Rattle.machine_moment_laws.proofs.Here.{stands_among}
 use Rattle.machine_moment_laws.proofs.LedAlone.{nothing_else_leads}
@@ -134,7 +133,7 @@ agent_is w written n there address at =
 -- ---- the walk
 -- where the common part leads an address, the agents do
 abbrev pub LabelsStay : List Checked → MachineState → Type 0
-LabelsStay cs w = (n : Node) → Member n (standing cs) → (l : LabelNo × Attached) → Member l (agent_rows (common cs) n.address).labels → Member l (rows_at w n).labels
+LabelsStay cs w = (n : Node) → Member n (standing cs) → (l : LabelNo × Attached) → Member l (rows_in_common cs n.address).labels → Member l (rows_at w n).labels
 
 module _ (cs : List Checked) (w : MachineState) (written : IsWritten w.setup) (among : StandsNow cs w) (labels : LabelsStay cs w) (alone : NothingElseLeads cs w) where
   pub one_step : (n next : Node) (i : InstanceId) (d : ℕ) (what : Attached) (left : ℕ) (before : List ServiceNo) → (h : LeadsInCommon cs n i d next what) → Member h.route (rows_at w n).routes

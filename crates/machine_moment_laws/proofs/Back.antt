@@ -25,7 +25,7 @@ use Rattle.machine_model.specs.Moments.{Each, nodes}
 use Rattle.machine_model.specs.Setup.{checked, opening}
 use Rattle.machine_laws.specs.Headline.{IsWritten}
 use Rattle.machine_moment_laws.specs.Arriving.{GoesOnIn, IsCommonWay, LeadsInCommon, StandsNow, StartsWhereCommon, VerdictsAreOfSome, agent_at_node}
-use Rattle.machine_moment_laws.specs.Common.{AccessListsAreOfSome, NothingElseLeads, common, rows_at}
+use Rattle.machine_moment_laws.specs.Common.{AccessListsAreOfSome, NothingElseLeads, placed, rows_at}
 use Rattle.machine_moment_laws.specs.Windows.{configurations}
 use Rattle.machine_moment_laws.proofs.AccessLists.{lists_held}
 use Rattle.machine_moment_laws.proofs.Admitting.{ListsStay, verdicts}
@@ -52,7 +52,7 @@ lists_are_of_some size positive x written before asked begins es window form ran
     let valid = all_are_written size positive x written before asked begins es window form in
     let r = rounds_in size (after size (start x) before) es in
     let all = so_many_rounds_later size positive x written before asked begins es window form in
-    lists_held (b ∷ ds) r rank w (some_back b ds valid r w.sessions all.1)
+    lists_held (b ∷ ds) r rank w (some_back b ds valid size positive r w.sessions all.1)
 
 pub nothing_else_leads : AtMomentsSince (Later 5 NothingElseLeads)
 nothing_else_leads size positive x written before asked begins es window form rank n stays =
@@ -62,7 +62,7 @@ nothing_else_leads size positive x written before asked begins es window form ra
     let valid = all_are_written size positive x written before asked begins es window form in
     let r = rounds_in size (after size (start x) before) es in
     let all = so_many_rounds_later size positive x written before asked begins es window form in
-    led_alone b ds valid r w.setup w.sessions all.0 (holds_back b ds valid r w.sessions all.1) (some_back b ds valid r w.sessions all.1) (stood_back b ds valid r w.sessions all.1) n stays rank
+    led_alone b ds valid r w.setup w.sessions all.0 (holds_back b ds valid size positive r w.sessions all.1) (some_back b ds valid size positive r w.sessions all.1) (stood_back b ds valid size positive r w.sessions all.1) n stays rank
 
 pub what_is_common_is_back : AtMomentsSince AllIsBack
 what_is_common_is_back size positive x written before asked begins es window form most bound rank n stays =
@@ -72,7 +72,7 @@ what_is_common_is_back size positive x written before asked begins es window for
     let valid = all_are_written size positive x written before asked begins es window form in
     let r = rounds_in size (after size (start x) before) es in
     let all = so_many_rounds_later size positive x written before asked begins es window form in
-    rows_there b ds valid r w.setup w.sessions all.0 (holds_back b ds valid r w.sessions all.1) (some_back b ds valid r w.sessions all.1) (stood_back b ds valid r w.sessions all.1) n stays most bound rank
+    rows_there b ds valid r w.setup w.sessions all.0 (holds_back b ds valid size positive r w.sessions all.1) (some_back b ds valid size positive r w.sessions all.1) (stood_back b ds valid size positive r w.sessions all.1) n stays most bound rank
 
 -- labels and access lists are back after two rounds
 lists_stay : AtMomentsSince (Later 2 (λ cs w. ListsStay cs w × LabelsStay cs w))
@@ -83,11 +83,11 @@ lists_stay size positive x written before asked begins es window form rank =
     let valid = all_are_written size positive x written before asked begins es window form in
     let r = rounds_in size (after size (start x) before) es in
     let all = so_many_rounds_later size positive x written before asked begins es window form in
-    let to = holds_back b ds valid r w.sessions all.1 in
-    let some = some_back b ds valid r w.sessions all.1 in
-    let st = stood_back b ds valid r w.sessions all.1 in (
-      (λ n stays. lists_above (slice (common (b ∷ ds)) n.address) (slice_in_use (held_by_agent w n.name)) (slice_had b ds valid r w.setup w.sessions all.0 to some st n stays rank)),
-      (λ n stays. labels_above (slice (common (b ∷ ds)) n.address) (slice_in_use (held_by_agent w n.name)) (slice_had b ds valid r w.setup w.sessions all.0 to some st n stays rank)),
+    let to = holds_back b ds valid size positive r w.sessions all.1 in
+    let some = some_back b ds valid size positive r w.sessions all.1 in
+    let st = stood_back b ds valid size positive r w.sessions all.1 in (
+      (λ n stays. lists_above (slice (placed (b ∷ ds)) n.address) (slice_in_use (held_by_agent w n.name)) (slice_had b ds valid r w.setup w.sessions all.0 to some st n stays rank)),
+      (λ n stays. labels_above (slice (placed (b ∷ ds)) n.address) (slice_in_use (held_by_agent w n.name)) (slice_had b ds valid r w.setup w.sessions all.0 to some st n stays rank)),
     )
 
 stands_now : AtMomentsSince (λ rounds cs w. StandsNow cs w)
@@ -107,7 +107,7 @@ starts_again size positive x written before asked begins es window form rank =
     let valid = all_are_written size positive x written before asked begins es window form in
     let r = rounds_in size (after size (start x) before) es in
     let all = so_many_rounds_later size positive x written before asked begins es window form in
-    start_common b ds valid w all.0 r rank (holds_back b ds valid r w.sessions all.1) (some_back b ds valid r w.sessions all.1) (stood_back b ds valid r w.sessions all.1)
+    start_common b ds valid w all.0 r rank (holds_back b ds valid size positive r w.sessions all.1) (some_back b ds valid size positive r w.sessions all.1) (stood_back b ds valid size positive r w.sessions all.1)
     (lists_stay size positive x written before asked begins es window form rank).1
 
 pub verdicts_again : AtMomentsSince (Later 2 VerdictsAreOfSome)
@@ -167,7 +167,7 @@ go_the_way_again size positive x written before asked begins es window form n i 
     let valid = all_are_written size positive x written before asked begins es window form in
     let r = rounds_in size (after size (start x) before) es in
     let all = so_many_rounds_later size positive x written before asked begins es window form in
-    go_way b ds valid w all.0 r (holds_back b ds valid r w.sessions all.1) (some_back b ds valid r w.sessions all.1) (stood_back b ds valid r w.sessions all.1)
+    go_way b ds valid w all.0 r (holds_back b ds valid size positive r w.sessions all.1) (some_back b ds valid size positive r w.sessions all.1) (stood_back b ds valid size positive r w.sessions all.1)
     (stands_now size positive x written before asked begins es window form)
     (lists_stay size positive x written before asked begins es window form (two (length services) r enough)).1
     (nothing_else_leads size positive x written before asked begins es window form (five (length services) r enough))

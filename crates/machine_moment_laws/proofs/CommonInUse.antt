@@ -27,11 +27,11 @@ use Rattle.machine_laws.specs.Goal.{IsLaid, role_of}
 use Rattle.machine_laws.specs.Headline.{IsWritten}
 use Rattle.machine_laws.proofs.Placing.{agent_named}
 use Rattle.machine_laws.proofs.Views.{far, fars_are, heard, views}
-use Rattle.machine_moment_laws.specs.Common.{common, standing}
-use Rattle.machine_moment_laws.proofs.Above.{ListAbove, value_above}
+use Rattle.machine_moment_laws.specs.Common.{placed, standing}
+use Rattle.machine_moment_laws.proofs.Above.{ListPlaced, stood_placed, value_of_some}
 use Rattle.machine_moment_laws.proofs.Here.{Here, here_laid, here_sound, lasts, site_lasts, standing_lasts, stands_there}
 use Rattle.machine_moment_laws.proofs.Says.{HoldsTo, Mine, Says, SaysBy, both_last, lasting, mine}
-use Rattle.machine_moment_laws.proofs.OfSome.{AreSomeTo, all_some}
+use Rattle.machine_moment_laws.proofs.OfSome.{AreSomeTo, ObjectOfSome, all_some}
 use Rattle.machine_moment_laws.proofs.Parts.{object_is}
 use Rattle.machine_moment_laws.proofs.Stood.{HoldStood}
 
@@ -39,8 +39,8 @@ module _ (b : Checked) (ds : List Checked) (written : (c : Checked) → Member c
   abbrev cs : List Checked
   cs = b ∷ ds
 
-  abbrev M : Map
-  M = common cs
+  abbrev W : Map
+  W = placed cs
 
   module _ (r : ℕ) (x : Setup) (ss : List Session) (here : Here b ds written x (map nodes ss)) (lasting_stays : Each (HoldsTo b ds written r) ss) (some : Each (AreSomeTo cs r) ss) (st : Each (HoldStood cs b.topology.asn r) ss) (n : Node) (stays : Member n (standing cs)) where
     abbrev own : List Session
@@ -74,8 +74,8 @@ module _ (b : Checked) (ds : List Checked) (written : (c : Checked) → Member c
       pub rest : agent.Holdings
       pub holdings_are : agent_holdings x n.name (views own) ≡ record { is_up = true; map = session.near.held } ∷ rest
 
-    pub in_use : InUse
-    in_use =
+    pub in_use : 2 ≤ r → InUse
+    in_use rank =
         let f = laid.first n.name n found is_agent in
         let lists_it : Member f.0 n.controllers = subst (Member f.0) (sym f.2) (inl refl) in
         let control : role_of x f.0 ≡ Controller = laid.listed n.name n found f.0 lists_it in
@@ -93,24 +93,29 @@ module _ (b : Checked) (ds : List Checked) (written : (c : Checked) → Member c
               ap (λ (o : Option Node). slice_in_use (map (heard_from (views own)) (unwrap_or (option_map (λ (c : Node). c.controllers) o) []))) found
               ∙ ap (λ (ns : List Name). slice_in_use (map (heard_from (views own)) ns)) f.2
               ∙ ap (λ (h : agent.Heard). cond h.is_up (objects h.map) (slice_in_use (map (heard_from (views own)) f.1))) q.3
-              ∙ ap (λ (p : Phase). cond (is_up_phase p) (objects s.near.held) (slice_in_use (map (heard_from (views own)) f.1))) (q.1.up l);
+              ∙ ap (λ (p : Phase). cond (is_up_phase p) (objects s.near.held) (slice_in_use (map (heard_from (views own)) f.1))) (q.1.up l rank);
           rest = map (heard_from (views own)) f.1;
           holdings_are =
               ap (λ (o : Option Node). map (heard_from (views own)) (unwrap_or (option_map (λ (c : Node). c.controllers) o) [])) found
               ∙ ap (λ (ns : List Name). map (heard_from (views own)) ns) f.2
               ∙ ap (λ (h : agent.Heard). h ∷ map (heard_from (views own)) f.1) q.3
-              ∙ ap (λ (p : Phase). record { is_up = is_up_phase p; map = s.near.held } ∷ map (heard_from (views own)) f.1) (q.1.up l);
+              ∙ ap (λ (p : Phase). record { is_up = is_up_phase p; map = s.near.held } ∷ map (heard_from (views own)) f.1) (q.1.up l rank);
         }
 
-    -- it has all of the common part
-    pub slice_had : 2 ≤ r → ListAbove (slice M n.address) (slice_in_use (agent_holdings x n.name (views own)))
-    slice_had rank k w h =
-        let u = in_use in
+    -- it has each object that is placed there, as some configuration has it
+    pub slice_some : 2 ≤ r → (k : LowKey) (w : LowValue) → Member (k, w) (slice W n.address) → (v : LowValue) × Member (k, v) (slice_in_use (agent_holdings x n.name (views own))) × ObjectOfSome cs k v
+    slice_some rank k w h =
+        let u = in_use rank in
         let m = u.to in
-        let there = (slice_is M n.address k w).0 h in
         let says : Says b ds written r (u.session.far.name, u.session.far.role) (u.session.near.name, u.session.near.role) (Low k) =
         subst (λ (q : Role). SaysBy b ds written r q u.session.near.role u.session.far.name u.session.near.name (Low k)) (sym u.control)
         (subst (λ (q : Role). SaysBy b ds written r Controller q u.session.far.name u.session.near.name (Low k)) (sym (m.near_role ∙ ap (role_of x) m.name ∙ is_agent))
         (rank, (n, stays, sym m.name, w, h))) in
-        let v = value_above b ds u.session.near.held k w (ap as_object (object_of M k w there.0)) (get u.session.near.held (Low k)) refl (m.held u.lasts_on (Low k) says) (λ y e. all_some cs r rank (u.session.far.name, u.session.far.role) (u.session.near.name, u.session.near.role) u.session.near.held m.some (Low k) y e) in
+        let v = value_of_some b ds u.session.near.held k (get u.session.near.held (Low k)) refl (m.held u.lasts_on (Low k) says) (λ y e. all_some cs r rank (u.session.far.name, u.session.far.role) (u.session.near.name, u.session.near.role) u.session.near.held m.some (Low k) y e) in
         (v.0, subst (λ (os : List (LowKey × LowValue)). Member (k, v.0) os) (sym u.slice_is) (in_objects u.session.near.held k v.0 (object_is u.session.near.held k v.0 v.1)), v.2)
+
+    -- so it has all that is placed there, but for the addresses of ports
+    pub slice_had : 2 ≤ r → ListPlaced (slice W n.address) (slice_in_use (agent_holdings x n.name (views own)))
+    slice_had rank k w h =
+        let v = slice_some rank k w h in
+        (v.0, v.1, stood_placed b ds k w v.0 (ap as_object (object_of W k w ((slice_is W n.address k w).0 h).0)) v.2)

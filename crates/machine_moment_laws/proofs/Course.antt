@@ -88,7 +88,7 @@ module _ (size : Name → Message → ℕ) (lasts : Name → Bool) (Here : Setup
     on_node n (λ s. passed (wanted w.setup (views_of n w.sessions) (view s)) s) (λ s. MayTell s (wanted w.setup (views_of n w.sessions) (view s))) (λ s q p. k.passes (wanted w.setup (views_of n w.sessions) (view s)) s q p) w.sessions e.1 (k.wants w.setup w.sessions n e.0 e.1),
   )
 
-  takes_keep : Takes AllKeep
+  pub takes_keep : Takes AllKeep
   takes_keep from to w e =
       pass_keeps to (change_session to from arrived w)
       (subst (Here w.setup) (sym (session_nodes to from arrived arrived_nodes w.sessions)) e.0, with_session_keeps P k.both arrived k.arrives to from w.sessions e.1)
@@ -98,7 +98,7 @@ module _ (size : Name → Message → ℕ) (lasts : Name → Bool) (Here : Setup
       pass_keeps to (change_session to from (octets_arrived size n) w)
       (subst (Here w.setup) (sym (session_nodes to from (octets_arrived size n) (octets_nodes size n) w.sessions)) e.0, with_session_keeps P k.both (octets_arrived size n) (k.octets n) to from w.sessions e.1)
 
-  clears_keep : (w : MachineState) → AllKeep w → AllKeep (record { setup = w.setup; sessions = map without_breaks w.sessions })
+  pub clears_keep : (w : MachineState) → AllKeep w → AllKeep (record { setup = w.setup; sessions = map without_breaks w.sessions })
   clears_keep w e = (subst (Here w.setup) (sym (map_nodes without_breaks (λ s. refl) w.sessions)) e.0, each w.sessions e.1)
     where
       each : (ss : List Session) → Each P ss → Each P (map without_breaks ss)
@@ -129,7 +129,7 @@ module _ (size : Name → Message → ℕ) (lasts : Name → Bool) (Here : Setup
   some_is (Some s) e = (s, refl)
   some_is None e = absurd (true≢false (sym e))
 
-  connects_keep : (a b : Name) (w : MachineState) → ((s : Session) → session_in w.sessions a b ≡ Some s → may_connect s ≡ true) → is_some (session_in w.sessions a b) ≡ true → AllKeep w → AllKeep (connect a b w)
+  pub connects_keep : (a b : Name) (w : MachineState) → ((s : Session) → session_in w.sessions a b ≡ Some s → may_connect s ≡ true) → is_some (session_in w.sessions a b) ≡ true → AllKeep w → AllKeep (connect a b w)
   connects_keep a b w may some e =
       let q = some_is (session_in w.sessions a b) some in
       let f = found P k.both a b w.sessions e.1 q.0 q.1 in

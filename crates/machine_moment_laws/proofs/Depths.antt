@@ -32,15 +32,15 @@ use Rattle.node_laws.proofs.NodeModel.Objects.{object_of, side_use}
 use Rattle.node_laws.proofs.NodeModel.Places.{inside_itself}
 use Rattle.node_laws.proofs.NodeModel.Wanted.{slice_is}
 use Rattle.machine_model.specs.Setup.{low_in, opening}
-use Rattle.machine_laws.specs.Compiled.{agent_rows}
 use Rattle.machine_laws.specs.Headline.{IsWritten}
 use Rattle.machine_laws.specs.Sound.{IsSound}
 use Rattle.machine_laws.proofs.TableRows.{SubnetRow}
 use Rattle.machine_moment_laws.specs.Arriving.{IsCommonWay, LeadsInCommon}
-use Rattle.machine_moment_laws.specs.Common.{common}
+use Rattle.machine_moment_laws.specs.Common.{common, placed, rows_in_common}
 use Rattle.machine_moment_laws.proofs.Arriving.{key_of}
 use Rattle.machine_moment_laws.proofs.HopRows.{above, itself, one_number, sound_of}
 use Rattle.machine_moment_laws.proofs.InUses.{no_attachment_in, one_of_sides}
+use Rattle.machine_moment_laws.proofs.Placed.{objects_too}
 use Rattle.machine_moment_laws.proofs.Routes.{IsCompiled, compiled_is, hop_of}
 use Rattle.machine_moment_laws.proofs.Sides.{circuit_there, same_hop_at, same_subnets, side_with}
 use Rattle.machine_moment_laws.proofs.Static.{attached_in, imported_in}
@@ -146,6 +146,9 @@ module _ (b : Checked) (ds : List Checked) (written : (c : Checked) → Member c
   abbrev M : Map
   M = common cs
 
+  abbrev W : Map
+  W = placed cs
+
   abbrev feed : Map
   feed = low_in b
 
@@ -153,26 +156,27 @@ module _ (b : Checked) (ds : List Checked) (written : (c : Checked) → Member c
   sound = sound_of b ds written b (inl refl)
 
   -- under the label of a row that leads a subnet on stands its circuit
-  what_there : (i : InstanceId) (p : Block) (row : TableRow) (t : SubnetRow M i p row) (address : Addr) (l : LabelNo) (what : Attached) → t.to.label ≡ l → Member (l, what) (agent_rows M address).labels → IsCircuit (circuit_at t.side (suc t.d)) what
+  what_there : (i : InstanceId) (p : Block) (row : TableRow) (t : SubnetRow M i p row) (address : Addr) (l : LabelNo) (what : Attached) → t.to.label ≡ l → Member (l, what) (rows_in_common cs address).labels → IsCircuit (circuit_at t.side (suc t.d)) what
   what_there i p row t address l what label there =
       let c = circuit_there b ds written t.side t.of_use t.d t.within in
       let own : Member i (imports feed i) = imported_in b ds written i i (itself b ds written i p row t) b (inl refl) in
       let one : c.0 ≡ t.to =
       sound.one_host i c.0 t.to (attached_in b ds written c.0 c.1 b (inl refl)) (attached_in b ds written t.to t.attached b (inl refl))
       (subst (λ (n : InstanceId). Member n (imports feed i)) (sym (c.2.0 ∙ t.at)) own) (subst (λ (n : InstanceId). Member n (imports feed i)) (sym (t.circuit.0 ∙ t.at)) own) (c.2.1 ∙ sym t.circuit.1) in
-      let m = from_filter_map (λ (e : LowKey × LowValue). attached e.0 e.1) (l, what) (slice M address) there in
+      let m = from_filter_map (λ (e : LowKey × LowValue). attached e.0 e.1) (l, what) (slice W address) there in
       let number : l ≡ circuit_label_of (circuit_at t.side (suc t.d)) = sym label ∙ ap (λ a. a.label) (sym one) ∙ c.3.label in
       let k_is : m.0.0 ≡ key.Attach (circuit_label_of (circuit_at t.side (suc t.d))).0 = key_of m.0.0 m.0.1 (l, what) m.2 ∙ ap (λ (l : LabelNo). key.Attach l.0) number in
-      let held : Member (key.Attach (circuit_label_of (circuit_at t.side (suc t.d))).0, m.0.1) (objects M) = subst (λ (k : LowKey). Member (k, m.0.1) (objects M)) k_is ((slice_is M address m.0.0 m.0.1).0 m.1).0 in
-      let v_is : m.0.1 ≡ low.AttachCircuit (circuit_at t.side (suc t.d)) c.3.service c.0.node = one_value M (key.Attach (circuit_label_of (circuit_at t.side (suc t.d))).0) m.0.1 (low.AttachCircuit (circuit_at t.side (suc t.d)) c.3.service c.0.node) held c.3.there in
+      let held : Member (key.Attach (circuit_label_of (circuit_at t.side (suc t.d))).0, m.0.1) (objects W) = subst (λ (k : LowKey). Member (k, m.0.1) (objects W)) k_is ((slice_is W address m.0.0 m.0.1).0 m.1).0 in
+      let theirs = objects_too b ds (key.Attach (circuit_label_of (circuit_at t.side (suc t.d))).0) (low.AttachCircuit (circuit_at t.side (suc t.d)) c.3.service c.0.node) c.3.there in
+      let v_is : m.0.1 ≡ low.AttachCircuit (circuit_at t.side (suc t.d)) c.3.service c.0.node = one_value W (key.Attach (circuit_label_of (circuit_at t.side (suc t.d))).0) m.0.1 (low.AttachCircuit (circuit_at t.side (suc t.d)) c.3.service c.0.node) held theirs in
       (c.3.service, attached_circuit m.0.0 m.0.1 (circuit_label_of (circuit_at t.side (suc t.d))).0 (circuit_at t.side (suc t.d)) c.3.service c.0.node l what k_is v_is m.2)
 
   -- ---- along one side, for an address of one of its subnets
   module _ (address : ℕ) (s : Side) (of_use : Member s (sides feed)) (p : Block) (subnet : Member p (subnets s)) (holds : contains p address ≡ true) where
     step : (k : ℕ) → k < s.chain.services → (n next : Node) (what : Attached) → LeadsInCommon cs n (hop_at s (suc k)) address next what → IsCircuit (circuit_at s (suc k)) what
-    step k within n next what h = by (compiled_is M n.address h.route.0.0 h.route.0.1 h.route.1 h.is_route)
+    step k within n next what h = by (compiled_is cs n.address h.route.0.0 h.route.0.1 h.route.1 h.is_route)
       where
-        of_row : (c : IsCompiled M n.address h.route.0.0 h.route.0.1 h.route.1) → SubnetRow M h.route.0.0 h.route.0.1 c.row → IsCircuit (circuit_at s (suc k)) what
+        of_row : (c : IsCompiled cs n.address h.route.0.0 h.route.0.1 h.route.1) → SubnetRow M h.route.0.0 h.route.0.1 c.row → IsCircuit (circuit_at s (suc k)) what
         of_row c t =
             let v = above b ds written h.route.0.0 h.route.0.1 c.row t b (inl refl) in
             let o = side_with v.chain t.side.is_right in
@@ -185,7 +189,7 @@ module _ (b : Checked) (ds : List Checked) (written : (c : Checked) → Member c
             let w = what_there h.route.0.0 h.route.0.1 c.row t next.address h.route.1.label what (ap (λ e. e.label) (ap hop_of t.row ∙ c.hop_is)) h.label in
             (w.0, w.1 ∙ ap (λ (c : ℕ). Circuit c w.0) circuits)
 
-        by : IsCompiled M n.address h.route.0.0 h.route.0.1 h.route.1 → IsCircuit (circuit_at s (suc k)) what
+        by : IsCompiled cs n.address h.route.0.0 h.route.0.1 h.route.1 → IsCircuit (circuit_at s (suc k)) what
         by c = elim c.kind as (λ _. IsCircuit (circuit_at s (suc k)) what) [
           | inl o ↦ absurd (no_attachment_in feed sound s k of_use within o.to (attached_in b ds written o.to o.attached b (inl refl))
               (subst (λ (i : InstanceId). Member o.to.instance (imports feed i)) h.instance (imported_in b ds written h.route.0.0 o.to.instance o.imported b (inl refl)))

@@ -86,7 +86,7 @@ replaced_feeds name c new (s ∷ ss) e p =
     ] refl
 
 -- the address of an agent that does not move
-same_address : (m : Move) (t u : Topology) → MoverIs m.name m.now t u → (a : Name) → (m.name ≡ a → ⊥) → (c : Name) (ns : List Numbers) → address_in (agents_in (map (renumbered_at m) ns) c) a ≡ address_in (agents_in ns c) a
+pub same_address : (m : Move) (t u : Topology) → MoverIs m.name m.now t u → (a : Name) → (m.name ≡ a → ⊥) → (c : Name) (ns : List Numbers) → address_in (agents_in (map (renumbered_at m) ns) c) a ≡ address_in (agents_in ns c) a
 same_address m t u i a other c [] = refl
 same_address m t u i a other c (n ∷ ns) =
     elim (same_name n.control c) as (λ b. address_in (cond b (came_at m.now n.control (without_agent m.name n.agents)) (agents_in (map (renumbered_at m) ns) c)) a ≡ address_in (cond b n.agents (agents_in ns c)) a) [

@@ -27,7 +27,6 @@ use Rattle.ov_types.proofs.FirstLemmas.{any_of}
 use Rattle.route_targets.specs.Numbers.{hop_instance_of, port_label_of}
 use Rattle.config_types.specs.declared.config.Action.TheVariants.{Pass, Through}
 use Rattle.config_types.specs.declared.config.Network.{Network}
-use Rattle.config_types.specs.declared.config.Port.{Port}
 use Rattle.config_types.specs.declared.topology.Node.{Node}
 use Rattle.policy_rules.proofs.Relations.{related_iff}
 use Rattle.run_ties.specs.ConfigCheck.Checked.{Checked}
@@ -68,11 +67,12 @@ use Rattle.hitless_laws.proofs.Around.{alone, holds_port, one_numbered}
 use Rattle.hitless_laws.proofs.Offered.{decider_stands}
 use Rattle.hitless_laws.proofs.Uses.{one_chain}
 use Rattle.machine_moment_laws.specs.Arriving.{GoesOnIn, HeadsInCommon, IsCommonWay, Meets, StartsInCommon}
-use Rattle.machine_moment_laws.specs.Common.{WasHeld, common, entered, standing}
+use Rattle.machine_moment_laws.specs.Common.{WasHeld, common, entered, placed, standing}
 use Rattle.machine_moment_laws.proofs.Parts.{object_is}
+use Rattle.machine_moment_laws.proofs.Placed.{in_placed}
 use Rattle.machine_moment_laws.specs.Kept.{IsStraight}
 use Rattle.machine_moment_laws.proofs.Going.{arrives, needed_in, port_labelled, port_needed}
-use Rattle.machine_moment_laws.proofs.Made.{ImportsInAll, ListInAll, imports_common, in_standing, list_common, port_common, valid}
+use Rattle.machine_moment_laws.proofs.Made.{ImportsInAll, ListInAll, imports_common, in_standing, list_common, port_common, port_placed, valid}
 use Rattle.machine_moment_laws.proofs.Through.{few, goes_forwards, goes_mirrored}
 use Rattle.machine_moment_laws.proofs.Tracked.{Stop, enters, hop_of_stop, imports_in, list_in, no_hop, place_entered, port_in}
 
@@ -266,12 +266,11 @@ module _ (b : Checked) (ds : List Checked) (written : (c : Checked) → Member c
   abbrev pub M : Map
   M = common cs
 
+  abbrev W : Map
+  W = placed cs
+
   abbrev pub AllOffer : Way → Track → Type 0
   AllOffer way track = (c : Checked) → Member c cs → Offers c p number way track
-
-  -- the source port has one address
-  abbrev pub SourceStays : Addr → Type 0
-  SourceStays a = (c : Checked) → Member c cs → (q : Port) → Contains c.config.ports q → q.id ≡ p.source → q.address ≡ a
 
   abbrev ImportsAt : Checked → InstanceId → InstanceId → Type 0
   ImportsAt c i j = Member j (network_imports (object (low_in c) (key.Instance i.0)))
@@ -291,11 +290,6 @@ module _ (b : Checked) (ds : List Checked) (written : (c : Checked) → Member c
         let o = offered c m in
         subst (λ (i : InstanceId). ImportsAt c i i) o.target_is (imports_in c (written c m) o.target o.target o.target_stands o.target_stands (inl refl))
 
-    from_itself : ImportsInAll b ds written track.from track.from
-    from_itself c m =
-        let o = offered c m in
-        subst (λ (i : InstanceId). ImportsAt c i i) o.own_is (imports_in c (written c m) o.own o.own o.leaves.own_stands o.leaves.own_stands (inl refl))
-
     from_no_hop : is_hop track.from ≡ false
     from_no_hop = let o = offered b (inl refl) in subst (λ (i : InstanceId). is_hop i ≡ false) o.own_is (no_hop b (written b (inl refl)) o.own o.leaves.own_stands)
 
@@ -309,59 +303,62 @@ module _ (b : Checked) (ds : List Checked) (written : (c : Checked) → Member c
         (record { has_home = o.target_stands; has_port = o.arrives.arrival_stands; has_node = o.arrival_node.stands; home_of = o.arrives.arrival_network; node_of = o.arrival_node.named })
         number track.to p.destination o.arrives.arrival_number o.target_is o.arrives.arrival_address) to_itself
 
-    module _ (a : Addr) (stays : SourceStays a) where
-      -- the source port
-      source_there : object M (key.Attach (port_label_of p.source).0) ≡ Some (low.AttachPort p.source track.from a n.address)
-      source_there =
-          port_common b ds written (port_label_of p.source).0 p.source track.from a n source_stands
-          (λ c m.
-          let o = offered c m in
+    -- the source port, whatever its address
+    source_placed : (a : Addr) × (object W (key.Attach (port_label_of p.source).0) ≡ Some (low.AttachPort p.source track.from a n.address))
+    source_placed =
+        port_placed b ds written (port_label_of p.source).0 p.source track.from n source_stands
+        (λ c m.
+        let o = offered c m in (
+          o.leaves.source.address,
           port_in c (written c m) o.own o.leaves.source n
-          (record { has_home = o.leaves.own_stands; has_port = o.leaves.source_stands; has_node = o.source_node.stands; home_of = sym o.leaves.own_name; node_of = o.source_node.named })
-          p.source track.from a o.leaves.source_number o.own_is (stays c m o.leaves.source o.leaves.source_stands o.leaves.source_number)) from_itself
+              (record { has_home = o.leaves.own_stands; has_port = o.leaves.source_stands; has_node = o.source_node.stands; home_of = sym o.leaves.own_name; node_of = o.source_node.named })
+              p.source track.from o.leaves.source.address o.leaves.source_number o.own_is refl,
+        ))
 
-      pub starts : StartsInCommon cs n track.from p
-      starts = record { stays = source_stands; label = port_labelled M (port_label_of p.source) p.source track.from a n.address source_there }
+    abbrev source_value : LowValue
+    source_value = low.AttachPort p.source track.from source_placed.0 n.address
 
-      -- the access list
-      in_lists : ListInAll b ds written track.from.0 track.to.0
-      in_lists = record {
-        subnets = λ c m. ascending (offered c m).target.subnets;
-        rules = λ c m. acl_rules c.config (offered c m).own (offered c m).target;
-        each = λ c m. list_of c (written c m) p number way track (offered c m);
-      }
+    pub starts : StartsInCommon cs n track.from p
+    starts = record { stays = source_stands; label = port_labelled W (port_label_of p.source) p.source track.from source_placed.0 n.address source_placed.1 }
 
-      abbrev list_key : LowKey
-      list_key = key.Acl track.from.0 track.to.0
+    -- the access list
+    in_lists : ListInAll b ds written track.from.0 track.to.0
+    in_lists = record {
+      subnets = λ c m. ascending (offered c m).target.subnets;
+      rules = λ c m. acl_rules c.config (offered c m).own (offered c m).target;
+      each = λ c m. list_of c (written c m) p number way track (offered c m);
+    }
 
-      the_list : (list : LowValue) × (object M list_key ≡ Some list) × ((i : InstanceId) → ((c : Checked) (m : Member c cs) → Member i (entered (acl_rules c.config (offered c m).own (offered c m).target))) → Member i (needed_for list))
-      unfolding in_lists
-      the_list = list_common b ds written track.from.0 track.to.0 in_lists
+    abbrev list_key : LowKey
+    list_key = key.Acl track.from.0 track.to.0
 
-      list_in_slice : Member (list_key, the_list.0) (slice M n.address)
-      list_in_slice =
-          let v : LowValue = low.AttachPort p.source track.from a n.address in
-          let at : LowKey = key.Attach (port_label_of p.source).0 in
-          (slice_is M n.address list_key the_list.0).1 (
-            in_objects M list_key the_list.0 (object_is M list_key the_list.0 the_list.1),
-            record { name = at; port = v; held = in_objects M at v (object_is M at v source_there); port_is = ap (λ c. cond c (Some track.from) None) (eq-eqb n.address.0 n.address.0 refl) },
-          )
+    the_list : (list : LowValue) × (object M list_key ≡ Some list) × ((i : InstanceId) → ((c : Checked) (m : Member c cs) → Member i (entered (acl_rules c.config (offered c m).own (offered c m).target))) → Member i (needed_for list))
+    unfolding in_lists
+    the_list = list_common b ds written track.from.0 track.to.0 in_lists
 
-      pub heads : HeadsInCommon cs n track.from.0 track.to.0 p.destination.0
-      heads = record {
-        stays = source_stands;
-        list = the_list.0;
-        is_list = in_filter_map (λ (e : LowKey × LowValue). acl_entry e.0 e.1) (list_key, the_list.0) (list_key, the_list.0) (slice M n.address) list_in_slice refl;
-        meets = λ c v m has. meets_there c (written c m) p number way track (offered c m) v has;
-        alone = λ c other v m has meets. heads_alone c (written c m) p number way track (offered c m) other v has meets;
-      }
+    list_in_slice : Member (list_key, the_list.0) (slice W n.address)
+    list_in_slice =
+        let at : LowKey = key.Attach (port_label_of p.source).0 in
+        (slice_is W n.address list_key the_list.0).1 (
+          in_objects W list_key the_list.0 (object_is W list_key the_list.0 (in_placed b ds list_key the_list.0 the_list.1)),
+          record { name = at; port = source_value; held = in_objects W at source_value (object_is W at source_value source_placed.1); port_is = ap (λ c. cond c (Some track.from) None) (eq-eqb n.address.0 n.address.0 refl) },
+        )
 
-      -- where the way starts, the agent has its routes
-      from_needed : Member track.from (needed_by (slice M n.address))
-      from_needed = port_needed M (port_label_of p.source) p.source track.from a n.address source_there
+    pub heads : HeadsInCommon cs n track.from.0 track.to.0 p.destination.0
+    heads = record {
+      stays = source_stands;
+      list = the_list.0;
+      is_list = in_filter_map (λ (e : LowKey × LowValue). acl_entry e.0 e.1) (list_key, the_list.0) (list_key, the_list.0) (slice W n.address) list_in_slice refl;
+      meets = λ c v m has. meets_there c (written c m) p number way track (offered c m) v has;
+      alone = λ c other v m has meets. heads_alone c (written c m) p number way track (offered c m) other v has meets;
+    }
+
+    -- where the way starts, the agent has its routes
+    from_needed : Member track.from (needed_by (slice W n.address))
+    from_needed = port_needed W (port_label_of p.source) p.source track.from source_placed.0 n.address source_placed.1
 
 -- ---- along the way
-module _ (b : Checked) (ds : List Checked) (written : (c : Checked) → Member c (b ∷ ds) → IsWritten (opening c)) (p : Packet) (number : PortNo) (a : Addr) (stays : SourceStays b ds written p number a) where
+module _ (b : Checked) (ds : List Checked) (written : (c : Checked) → Member c (b ∷ ds) → IsWritten (opening c)) (p : Packet) (number : PortNo) where
   near_of : (c : Checked) (way : Way) (track : Track) (o : Offers c p number way track) → IsStraight way → (o.own.name ≡ o.target.name) ⊎ PassesBetween c.config o.own o.target
   near_of c inside track o s = inl (sym o.opens.0)
   near_of c passing track o s = inr o.opens.1
@@ -372,7 +369,7 @@ module _ (b : Checked) (ds : List Checked) (written : (c : Checked) → Member c
   at_once way track offered straight hand =
       let net = from_no_hop b ds written p number way track offered in
       arrives b ds written number track.to p.destination track.arrival_node (arrival_stands b ds written p number way track offered) (arrival_there b ds written p number way track offered)
-      track.source_node (source_stands b ds written p number way track offered) track.from (from_needed b ds written p number way track offered a stays)
+      track.source_node (source_stands b ds written p number way track offered) track.from (from_needed b ds written p number way track offered)
       (imports_common b ds written track.from track.to net (λ c m.
       let o = offered c m in
       subst (λ (i : InstanceId). Member i (network_imports (object (low_in c) (key.Instance track.from.0)))) o.target_is
@@ -389,12 +386,12 @@ module _ (b : Checked) (ds : List Checked) (written : (c : Checked) → Member c
           (imports_number x.0 y.0 (written x.0 x.1) (written y.0 y.1) track.from n net x.2)
           (has_port_at x.0 y.0 (written x.0 x.1) (written y.0 y.1) n p.destination y.2.0 small y.2.1 y.2.2 y.2.3)
 
-  needs_start : (use_no : ℕ) (mirrored : Bool) (track : Track) (offered : AllOffer b ds written p number (through use_no mirrored) track) → Member (hop_instance_of use_no (place_entered mirrored (length track.stops))) (needed_by (slice (common (b ∷ ds)) track.source_node.address))
+  needs_start : (use_no : ℕ) (mirrored : Bool) (track : Track) (offered : AllOffer b ds written p number (through use_no mirrored) track) → Member (hop_instance_of use_no (place_entered mirrored (length track.stops))) (needed_by (slice (placed (b ∷ ds)) track.source_node.address))
   needs_start use_no mirrored track offered =
       let way : Way = through use_no mirrored in
       let i : InstanceId = hop_instance_of use_no (place_entered mirrored (length track.stops)) in
-      let list = the_list b ds written p number way track offered a stays in
-      needed_in (common (b ∷ ds)) track.source_node.address (key.Acl track.from.0 track.to.0) list.0 i (list_in_slice b ds written p number way track offered a stays)
+      let list = the_list b ds written p number way track offered in
+      needed_in (placed (b ∷ ds)) track.source_node.address (key.Acl track.from.0 track.to.0) list.0 i (list_in_slice b ds written p number way track offered)
       (list.2 i (λ c m. let o = offered c m in enters c (written c m) p o.own o.target o.leaves.own_stands o.target_stands use_no mirrored track o.opens))
 
   pub way_of : (way : Way) (track : Track) → AllOffer b ds written p number way track → (IsStraight way → KeepsInHand (b ∷ ds) track.from track.to p.destination)

@@ -1,5 +1,5 @@
 -- The ways along which the common part leads to a port: at once, or through the services of a use.
-use Rattle.std.specs.Prelude.{◌≡◌, ◌+◌, ◌-◌, ◌<◌, ◌++◌, ℕ, zero, suc, List, [], ◌∷◌, length, map, reverse, true, ⊤}
+use Rattle.std.specs.Prelude.{◌≡◌, ◌+◌, ◌<◌, ◌++◌, ℕ, zero, suc, List, [], ◌∷◌, length, map, reverse, true, ⊤}
 use Rattle.std.specs.List.{slice_get}
 use Rattle.std.specs.declared.option.Option.TheVariants.{Some}
 use Rattle.std.proofs.Common.{ap, append_assoc, arith, inl, inr, length-append, refl, subst, sym, ◌∙◌}
@@ -37,8 +37,9 @@ use Rattle.machine_laws.proofs.Numbers.{circuit_at-instance, imports_end}
 use Rattle.machine_laws.proofs.RowsIn.{host_inside}
 use Rattle.machine_laws.proofs.Up.{held_in}
 use Rattle.machine_moment_laws.specs.Arriving.{IsCommonWay, LeadsInCommon}
-use Rattle.machine_moment_laws.specs.Common.{ChangesHands, common, standing}
+use Rattle.machine_moment_laws.specs.Common.{ChangesHands, common, placed, standing}
 use Rattle.machine_moment_laws.proofs.Parts.{object_is}
+use Rattle.machine_moment_laws.proofs.Placed.{in_placed}
 use Rattle.machine_moment_laws.proofs.Routes.{hop_of, route_at}
 use Rattle.machine_moment_laws.proofs.Sides.{ordered}
 use Rattle.machine_moment_laws.proofs.Routed.{routed}
@@ -105,6 +106,9 @@ module _ (b : Checked) (ds : List Checked) (written : (c : Checked) → Member c
   abbrev M : Map
   M = common cs
 
+  abbrev W : Map
+  W = placed cs
+
   abbrev host : Attachment
   host = record { label = port_label_of number; instance = to; prefix = host_prefix address.0; node = arrival.address }
 
@@ -113,7 +117,7 @@ module _ (b : Checked) (ds : List Checked) (written : (c : Checked) → Member c
       in_filter_map (λ (e : LowKey × LowValue). as_attachment e.0 e.1) (key.Attach (port_label_of number).0, low.AttachPort number to address arrival.address) host (objects M)
       (in_map_objects M (key.Attach (port_label_of number).0) (low.AttachPort number to address arrival.address) there) refl
 
-  pub arrives : (n : Node) → Member n (standing cs) → (i : InstanceId) → Member i (needed_by (slice M n.address)) → Member to (imports M i) → (ChangesHands cs i (host_prefix address.0) → ⊥) → IsCommonWay cs n i address.0 [] number
+  pub arrives : (n : Node) → Member n (standing cs) → (i : InstanceId) → Member i (needed_by (slice W n.address)) → Member to (imports M i) → (ChangesHands cs i (host_prefix address.0) → ⊥) → IsCommonWay cs n i address.0 [] number
   arrives n n_stays i needed imported in_hand = (
     arrival,
     to,
@@ -126,7 +130,7 @@ module _ (b : Checked) (ds : List Checked) (written : (c : Checked) → Member c
       in_hand = in_hand;
       next_stays = stays;
       hop = refl;
-      label = port_labelled M (port_label_of number) number to address arrival.address there;
+      label = port_labelled W (port_label_of number) number to address arrival.address (in_placed b ds (key.Attach (port_label_of number).0) (low.AttachPort number to address arrival.address) there);
     },
   )
 
@@ -144,13 +148,13 @@ module _ (b : Checked) (ds : List Checked) (written : (c : Checked) → Member c
       pub stands : Member stop.1 (standing cs)
       pub circuit : object M (key.Attach (circuit_label_of (circuit_at s (suc d))).0) ≡ Some (low.AttachCircuit (circuit_at s (suc d)) stop.0 stop.1.address)
       pub behind : circuit_instance_of (other_side_of (circuit_at s (suc d))) ≡ hop_at s d
-      pub needs : Member (hop_at s d) (needed_by (slice M stop.1.address))
+      pub needs : Member (hop_at s d) (needed_by (slice W stop.1.address))
 
     -- those that are passed on the way from a place to the side's end
     abbrev pub Downs : ℕ → List Stop → Type 0
     Downs = CountsDown StopAt
 
-    step : (d : ℕ) (stop : Stop) → StopAt d stop → (n : Node) → Member n (standing cs) → Member (hop_at s (suc d)) (needed_by (slice M n.address)) → LeadsInCommon cs n (hop_at s (suc d)) address.0 stop.1 (Circuit (circuit_at s (suc d)) stop.0)
+    step : (d : ℕ) (stop : Stop) → StopAt d stop → (n : Node) → Member n (standing cs) → Member (hop_at s (suc d)) (needed_by (slice W n.address)) → LeadsInCommon cs n (hop_at s (suc d)) address.0 stop.1 (Circuit (circuit_at s (suc d)) stop.0)
     step d stop h n n_stays needed =
         let k : ℕ = circuit_at s (suc d) in
         let a : Attachment = circuit_attachment M k stop.0 stop.1.address h.circuit in
@@ -175,10 +179,10 @@ module _ (b : Checked) (ds : List Checked) (written : (c : Checked) → Member c
           in_hand = hop_keeps (suc d) subnet;
           next_stays = h.stands;
           hop = refl;
-          label = circuit_labelled M k stop.0 stop.1.address h.circuit;
+          label = circuit_labelled W k stop.0 stop.1.address (in_placed b ds (key.Attach (circuit_label_of k).0) (low.AttachCircuit k stop.0 stop.1.address) h.circuit);
         }
 
-    pub goes_down : (d : ℕ) (rest : List Stop) → Downs d rest → (n : Node) → Member n (standing cs) → Member (hop_at s d) (needed_by (slice M n.address)) → IsCommonWay cs n (hop_at s d) address.0 (map (λ (k : Stop). k.0) rest) number
+    pub goes_down : (d : ℕ) (rest : List Stop) → Downs d rest → (n : Node) → Member n (standing cs) → Member (hop_at s d) (needed_by (slice W n.address)) → IsCommonWay cs n (hop_at s d) address.0 (map (λ (k : Stop). k.0) rest) number
     goes_down zero [] h n n_stays needed =
         arrives n n_stays (hop_at s 0) needed (subst (λ (i : InstanceId). Member i (imports M (hop_at s 0))) network_is (imports_end M s (ordered b ds written) of_use)) (hop_keeps 0 (host_prefix address.0))
     goes_down zero (stop ∷ rest) h n n_stays needed = absurd h

@@ -141,7 +141,7 @@ module _ (b : Checked) (ds : List Checked) (written : (c : Checked) → Member c
   pub here_stands : (x : Setup) (ps : List NodePair) → Here x ps → AllByRecursion (Stands x.topology) ps
   here_stands x ps h = subst (AllByRecursion (Stands x.topology)) (sym h.are_asked) (start_placed (checked x) (here_sound x ps h).named.apart).stand
 
-  names : (x : Setup) (ps : List NodePair) → Here x ps → NamesApart x.topology
+  pub names : (x : Setup) (ps : List NodePair) → Here x ps → NamesApart x.topology
   names x ps h = apart_names x.topology (here_sound x ps h).named.apart
 
   controls : (x : Setup) (ps : List NodePair) → Here x ps → controller_names x.topology ≡ controller_names b.topology

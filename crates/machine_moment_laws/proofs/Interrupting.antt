@@ -1,7 +1,7 @@
 -- In a window with one accepted edit a packet that both configurations keep goes as one of them has it go; so no put of a new
 -- object and no delete interrupts one.
-use Rattle.std.specs.Prelude.{◌≡◌, ◌≢◌, ◌≤◌, ◌⊎◌, ℕ, List, [], ◌∷◌}
-use Rattle.std.specs.List.{All, Any, Contains}
+use Rattle.std.specs.Prelude.{◌≡◌, ◌≤◌, ◌⊎◌, ℕ, List, [], ◌∷◌}
+use Rattle.std.specs.List.{Any}
 use Rattle.std.proofs.Common.{arith, inl, inr, refl, subst, sym, ◌∙◌}
 use Rattle.ov_types.specs.declared.numbers.PortNo.{PortNo}
 use Rattle.ov_types.specs.declared.numbers.ServiceNo.{ServiceNo}
@@ -9,12 +9,6 @@ use Rattle.ov_types.specs.declared.packet.Outcome.TheVariants.{Delivered}
 use Rattle.ov_types.specs.declared.packet.Packet.{Packet}
 use Rattle.ov_types.proofs.FirstLemmas.{contains_cases}
 use Rattle.route_targets.specs.Forwarding.{forwarding}
-use Rattle.config_types.specs.declared.config.Chain.{Chain}
-use Rattle.config_types.specs.declared.config.Network.{Network}
-use Rattle.config_types.specs.declared.config.Policy.{Policy}
-use Rattle.config_types.specs.declared.config.Port.{Port}
-use Rattle.config_types.specs.declared.config.Service.{Service}
-use Rattle.config_types.specs.declared.topology.Node.{Node}
 use Rattle.config_types.specs.declared.edit.Edit.TheVariants.{Delete, Put}
 use Rattle.config_types.specs.declared.edit.Object.{Object}
 use Rattle.config_types.specs.declared.edit.Object.TheVariants as Objects
@@ -22,7 +16,7 @@ use Rattle.config_types.specs.declared.edit.ObjectKind.{ObjectKind}
 use Rattle.config_types.specs.declared.edit.ObjectKind.TheVariants as Kinds
 use Rattle.run_ties.specs.ConfigCheck.Checked.{Checked}
 use Rattle.run_ties.specs.ConfigCheck.EditLaws.{chains_of, networks_of, nodes_of, policies_of, ports_of, services_of}
-use Rattle.run_ties.specs.ConfigCheck.Edits.{chain_name, edited, edited_config, network_name, node_name, policy_name, port_name, service_name}
+use Rattle.run_ties.specs.ConfigCheck.Edits.{chain_name, edited, network_name, node_name, policy_name, port_name, service_name}
 use Rattle.reach_plain.specs.Reachability.{reachability}
 use Rattle.node_laws.specs.NodeModel.Members.{Member}
 use Rattle.machine_model.specs.Events.{after, forwarders}
@@ -33,21 +27,19 @@ use Rattle.hitless_laws.specs.Keeping.{IsHitless, IsValidAsWritten, Keep}
 use Rattle.hitless_laws.specs.Kinds.{DeleteIsHitless, NewIsHitless}
 use Rattle.hitless_laws.specs.Ways.{Way}
 use Rattle.hitless_laws.proofs.Both.{two_keep}
-use Rattle.hitless_laws.proofs.ByKind.{delete_chain, delete_network, new_chain, new_network, new_node, new_policy, new_port, new_service, delete_node, parts_of_fault, delete_policy, delete_port, delete_service}
+use Rattle.hitless_laws.proofs.ByKind.{delete_chain, delete_network, new_chain, new_network, new_node, new_policy, new_port, new_service, delete_node, delete_policy, delete_port, delete_service}
 use Rattle.machine_moment_laws.specs.Windows.{AtMomentsOfWindows, configurations}
 use Rattle.machine_moment_laws.proofs.CommonMoments.{all_are_written, first_one, others}
-use Rattle.machine_moment_laws.specs.Kept.{DeleteInterruptsNothing, GoesByEither, HasOneAddress, HitlessInterruptsNothing, IsOfEither, KeptInOneEdit, NewInterruptsNothing}
-use Rattle.machine_moment_laws.proofs.KeptAddresses.{port_added, stays_or_put, with_less, with_more}
+use Rattle.machine_moment_laws.specs.Kept.{DeleteInterruptsNothing, GoesByEither, HitlessInterruptsNothing, IsOfEither, KeptInOneEdit, NewInterruptsNothing}
 use Rattle.machine_moment_laws.proofs.KeptDelivered.{kept_are_delivered}
-use Rattle.machine_moment_laws.proofs.Made.{valid}
 use Rattle.machine_moment_laws.proofs.OneEdit.{first_made, in_hand}
 
 pub kept_in_one_edit : AtMomentsOfWindows KeptInOneEdit
-kept_in_one_edit size positive x written before asked begins es window form few p number ways keep one =
+kept_in_one_edit size positive x written before asked begins es window form few p number ways keep =
     let began : MachineState = after size (start x) before in
     let b = first_one size positive x written before asked begins es window form in
     let ds = others size positive x written before asked begins es window form in
-    kept_are_delivered size positive x written before asked begins es window form p number ways keep one
+    kept_are_delivered size positive x written before asked begins es window form p number ways keep
     (in_hand b ds few (all_are_written size positive x written before asked begins es window form) (λ c cs e. first_made size began es c cs e) p number ways)
 
 -- ---- of two configurations
@@ -65,9 +57,9 @@ module _ (cs : List Checked) (w : MachineState) (kept : KeptInOneEdit cs w) (wri
   two : 2 ≤ 2
   two = omega arith
 
-  by_ways : (x y : Checked) → cs ≡ x ∷ y ∷ [] → (p : Packet) (number : PortNo) (ways : List Way) → Keep (x ∷ y ∷ []) p number ways → HasOneAddress (x ∷ y ∷ []) p.source → IsOfEither x y p (forwarding (forwarders w) p)
-  by_ways x y e p number ways keep one =
-      let d = subst (λ (cs : List Checked). KeptInOneEdit cs w) e kept two p number ways keep one in
+  by_ways : (x y : Checked) → cs ≡ x ∷ y ∷ [] → (p : Packet) (number : PortNo) (ways : List Way) → Keep (x ∷ y ∷ []) p number ways → IsOfEither x y p (forwarding (forwarders w) p)
+  by_ways x y e p number ways keep =
+      let d = subst (λ (cs : List Checked). KeptInOneEdit cs w) e kept two p number ways keep in
       one_of_two (λ (z : Checked). forwarding (forwarders w) p ≡ reachability z.config p) x y d.as_one
 
   of_first : (x y : Checked) → cs ≡ x ∷ y ∷ [] → IsWritten (opening x)
@@ -77,41 +69,33 @@ module _ (cs : List Checked) (w : MachineState) (kept : KeptInOneEdit cs w) (wri
   of_second x y e = written y (subst (Member y) (sym e) (inr (inl refl)))
 
   by_either : GoesByEither cs w
-  by_either x y e p number before later lead_x lead_y alike_before alike_after one =
+  by_either x y e p number before later lead_x lead_y alike_before alike_after =
       let k = (two_keep x y p number before later (as_written x (of_first x y e)) (as_written y (of_second x y e)) lead_x lead_y).1 (alike_before, alike_after) in
-      by_ways x y e p number k.0 k.1 (subst (λ (cs : List Checked). HasOneAddress cs p.source) e one)
+      by_ways x y e p number k.0 k.1
 
   hitless : HitlessInterruptsNothing cs w
-  hitless x y e h p number from_x from_y one =
+  hitless x y e h p number from_x from_y =
       let k = h.kept p number from_x from_y in
-      by_ways x y e p number k.0 k.1 (subst (λ (cs : List Checked). HasOneAddress cs p.source) e one)
+      by_ways x y e p number k.0 k.1
 
   -- what the one delivers and the other alike
-  both_alike : (x y : Checked) → cs ≡ x ∷ y ∷ [] → IsHitless x y → ((number : PortNo) → HasOneAddress (x ∷ y ∷ []) number) → (p : Packet) (number : PortNo) (services : List ServiceNo)
+  both_alike : (x y : Checked) → cs ≡ x ∷ y ∷ [] → IsHitless x y → (p : Packet) (number : PortNo) (services : List ServiceNo)
       → reachability x.config p ≡ Delivered number services → reachability y.config p ≡ Delivered number services → forwarding (forwarders w) p ≡ Delivered number services
-  both_alike x y e h one p number services from_x from_y =
+  both_alike x y e h p number services from_x from_y =
       let k = h.kept p number (services, from_x) (services, from_y) in
-      elim (by_ways x y e p number k.0 k.1 (one p.source)) [ inl first ↦ first ∙ from_x | inr second ↦ second ∙ from_y ]
+      elim (by_ways x y e p number k.0 k.1) [ inl first ↦ first ∙ from_x | inr second ↦ second ∙ from_y ]
 
-  abbrev Keeps : Checked → Checked → Type 0
-  Keeps x y = (a : Port) → Contains x.config.ports a → Contains y.config.ports a
-
-  of_new : {A : Type 0} (name_of : A → List ℕ) (object : A → Object) (list : Checked → List A) → NewIsHitless name_of object list
-      → ((o : A) (x : Checked) → All (λ y. name_of y ≢ name_of o) (list x) → Keeps x (edited (Put (object o)) x)) → NewInterruptsNothing name_of object list cs w
-  of_new name_of object list is keeps x o e form fresh accepted p number services from_x =
+  of_new : {A : Type 0} (name_of : A → List ℕ) (object : A → Object) (list : Checked → List A) → NewIsHitless name_of object list → NewInterruptsNothing name_of object list cs w
+  of_new name_of object list is x o e form fresh accepted p number services from_x =
       let y : Checked = edited (Put (object o)) x in
       let h = is x o (as_written x (of_first x y e)) form fresh accepted in
-      both_alike x y e h.0 (with_more x y (valid y (of_second x y e)) (keeps o x fresh)) p number services from_x (h.1 p number services from_x)
+      both_alike x y e h.0 p number services from_x (h.1 p number services from_x)
 
   of_delete : (kind : ObjectKind) → DeleteIsHitless kind → DeleteInterruptsNothing kind cs w
   of_delete kind is x name e form accepted p number services from_y =
       let y : Checked = edited (Delete kind name) x in
       let h = is x name (as_written x (of_first x y e)) form accepted in
-      both_alike x y e h.0 (with_less x y (valid x (of_first x y e)) (λ a at. elim (stays_or_put (Delete kind name) x (parts_of_fault (Delete kind name) x accepted).0 a at) as (λ _. Contains x.config.ports a) [ inl stays ↦ stays | inr put ↦ absurd (never put) ]))
-      p number services (h.1 p number services from_y) from_y
-    where
-      never : {a : Port} → Delete kind name ≡ Put (Objects.Port a) → ⊥
-      never e = cc
+      both_alike x y e h.0 p number services (h.1 p number services from_y) from_y
 
 -- ---- at each moment
 module _ (P : List Checked → MachineState → Type 0) (of : (cs : List Checked) (w : MachineState) → KeptInOneEdit cs w → ((c : Checked) → Member c cs → IsWritten (opening c)) → P cs w) where
@@ -127,43 +111,23 @@ goes_by_either = everywhere GoesByEither by_either
 pub hitless_interrupts_nothing : AtMomentsOfWindows HitlessInterruptsNothing
 hitless_interrupts_nothing = everywhere HitlessInterruptsNothing hitless
 
-same_ports_network : (o : Network) (x : Checked) (a : Port) → Contains x.config.ports a → Contains (edited (Put (Objects.Network o)) x).config.ports a
-unfolding edited_config
-same_ports_network o x a at = at
-
-same_ports_policy : (o : Policy) (x : Checked) (a : Port) → Contains x.config.ports a → Contains (edited (Put (Objects.Policy o)) x).config.ports a
-unfolding edited_config
-same_ports_policy o x a at = at
-
-same_ports_service : (o : Service) (x : Checked) (a : Port) → Contains x.config.ports a → Contains (edited (Put (Objects.Service o)) x).config.ports a
-unfolding edited_config
-same_ports_service o x a at = at
-
-same_ports_chain : (o : Chain) (x : Checked) (a : Port) → Contains x.config.ports a → Contains (edited (Put (Objects.Chain o)) x).config.ports a
-unfolding edited_config
-same_ports_chain o x a at = at
-
-same_ports_node : (o : Node) (x : Checked) (a : Port) → Contains x.config.ports a → Contains (edited (Put (Objects.Node o)) x).config.ports a
-unfolding edited_config
-same_ports_node o x a at = at
-
 pub new_networks : AtMomentsOfWindows (NewInterruptsNothing network_name (λ x. Objects.Network x) networks_of)
-new_networks = everywhere (NewInterruptsNothing network_name (λ x. Objects.Network x) networks_of) (λ cs w kept written. of_new cs w kept written network_name (λ x. Objects.Network x) networks_of new_network (λ o x fresh. same_ports_network o x))
+new_networks = everywhere (NewInterruptsNothing network_name (λ x. Objects.Network x) networks_of) (λ cs w kept written. of_new cs w kept written network_name (λ x. Objects.Network x) networks_of new_network)
 
 pub new_ports : AtMomentsOfWindows (NewInterruptsNothing port_name (λ x. Objects.Port x) ports_of)
-new_ports = everywhere (NewInterruptsNothing port_name (λ x. Objects.Port x) ports_of) (λ cs w kept written. of_new cs w kept written port_name (λ x. Objects.Port x) ports_of new_port port_added)
+new_ports = everywhere (NewInterruptsNothing port_name (λ x. Objects.Port x) ports_of) (λ cs w kept written. of_new cs w kept written port_name (λ x. Objects.Port x) ports_of new_port)
 
 pub new_policies : AtMomentsOfWindows (NewInterruptsNothing policy_name (λ x. Objects.Policy x) policies_of)
-new_policies = everywhere (NewInterruptsNothing policy_name (λ x. Objects.Policy x) policies_of) (λ cs w kept written. of_new cs w kept written policy_name (λ x. Objects.Policy x) policies_of new_policy (λ o x fresh. same_ports_policy o x))
+new_policies = everywhere (NewInterruptsNothing policy_name (λ x. Objects.Policy x) policies_of) (λ cs w kept written. of_new cs w kept written policy_name (λ x. Objects.Policy x) policies_of new_policy)
 
 pub new_services : AtMomentsOfWindows (NewInterruptsNothing service_name (λ x. Objects.Service x) services_of)
-new_services = everywhere (NewInterruptsNothing service_name (λ x. Objects.Service x) services_of) (λ cs w kept written. of_new cs w kept written service_name (λ x. Objects.Service x) services_of new_service (λ o x fresh. same_ports_service o x))
+new_services = everywhere (NewInterruptsNothing service_name (λ x. Objects.Service x) services_of) (λ cs w kept written. of_new cs w kept written service_name (λ x. Objects.Service x) services_of new_service)
 
 pub new_chains : AtMomentsOfWindows (NewInterruptsNothing chain_name (λ x. Objects.Chain x) chains_of)
-new_chains = everywhere (NewInterruptsNothing chain_name (λ x. Objects.Chain x) chains_of) (λ cs w kept written. of_new cs w kept written chain_name (λ x. Objects.Chain x) chains_of new_chain (λ o x fresh. same_ports_chain o x))
+new_chains = everywhere (NewInterruptsNothing chain_name (λ x. Objects.Chain x) chains_of) (λ cs w kept written. of_new cs w kept written chain_name (λ x. Objects.Chain x) chains_of new_chain)
 
 pub new_nodes : AtMomentsOfWindows (NewInterruptsNothing node_name (λ x. Objects.Node x) nodes_of)
-new_nodes = everywhere (NewInterruptsNothing node_name (λ x. Objects.Node x) nodes_of) (λ cs w kept written. of_new cs w kept written node_name (λ x. Objects.Node x) nodes_of new_node (λ o x fresh. same_ports_node o x))
+new_nodes = everywhere (NewInterruptsNothing node_name (λ x. Objects.Node x) nodes_of) (λ cs w kept written. of_new cs w kept written node_name (λ x. Objects.Node x) nodes_of new_node)
 
 module _ (kind : ObjectKind) (is : DeleteIsHitless kind) where
   deletes : AtMomentsOfWindows (DeleteInterruptsNothing kind)

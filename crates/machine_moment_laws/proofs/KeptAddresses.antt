@@ -1,11 +1,11 @@
--- Ports keep their addresses: in an edit that puts no port of their number, and in one that adds an object or deletes one.
-use Rattle.std.specs.Prelude.{◌≡◌, ◌≢◌, ◌⊎◌, List, [], ◌∷◌, None}
-use Rattle.std.specs.List.{All, Contains}
+-- Ports keep their addresses in an edit that puts no port of their number.
+use Rattle.std.specs.Prelude.{◌≡◌, ◌⊎◌, List, [], ◌∷◌, None}
+use Rattle.std.specs.List.{Contains}
 use Rattle.std.proofs.Common.{ap, arith, inl, inr, refl, subst, sym, ◌∙◌}
-use Rattle.std.proofs.lemmas.List.Elements.{All-contains, Contains-append_cases, Contains-append_left, Contains-append_right}
+use Rattle.std.proofs.lemmas.List.Elements.{Contains-append_cases, Contains-append_left, Contains-append_right}
 use Rattle.std.proofs.lemmas.Option.{same_Some}
 use Rattle.ov_types.specs.declared.numbers.PortNo.{PortNo}
-use Rattle.ov_types.proofs.FirstLemmas.{contains_cases, contains_here, contains_later}
+use Rattle.ov_types.proofs.FirstLemmas.{contains_cases, contains_later}
 use Rattle.config_types.specs.declared.config.Port.{Port}
 use Rattle.config_types.specs.declared.edit.Edit.{Edit}
 use Rattle.config_types.specs.declared.edit.Edit.TheVariants.{Delete, Put}
@@ -36,20 +36,8 @@ of_two x y z P h k at =
       | inr later ↦ elim (contains_cases y [] z later) [ inl second ↦ subst P second k | inr never ↦ absurd (omega (arith, never.1)) ]
     ]
 
--- where all ports of two configurations are in a third that is valid
-in_one : (x y z : Checked) → IsValid z.topology z.config → AllIn x.config.ports z.config.ports → AllIn y.config.ports z.config.ports → (number : PortNo) → HasOneAddress (x ∷ y ∷ []) number
-in_one x y z v from_x from_y number u w a b at_u at_w in_a in_b is_a is_b =
-    let P : Checked → Type 0 = λ u. AllIn u.config.ports z.config.ports in
-    ap (λ (q : Port). q.address) (one_port z v a b (of_two x y u P from_x from_y at_u a in_a) (of_two x y w P from_x from_y at_w b in_b) (is_a ∙ sym is_b))
-
-pub with_more : (x y : Checked) → IsValid y.topology y.config → AllIn x.config.ports y.config.ports → (number : PortNo) → HasOneAddress (x ∷ y ∷ []) number
-with_more x y v all number = in_one x y y v all (λ a at. at) number
-
-pub with_less : (x y : Checked) → IsValid x.topology x.config → AllIn y.config.ports x.config.ports → (number : PortNo) → HasOneAddress (x ∷ y ∷ []) number
-with_less x y v all number = in_one x y x v (λ a at. at) all number
-
 -- ---- what an edit makes of the ports
-pub stays_or_put : (e : Edit) (x : Checked) → missing_name e x ≡ None → (b : Port) → Contains (edited e x).config.ports b → Contains x.config.ports b ⊎ (e ≡ Put (Objects.Port b))
+stays_or_put : (e : Edit) (x : Checked) → missing_name e x ≡ None → (b : Port) → Contains (edited e x).config.ports b → Contains x.config.ports b ⊎ (e ≡ Put (Objects.Port b))
 unfolding edited_config
 stays_or_put (Put (Objects.Port o)) x m b at =
     let put = port_put o x in
@@ -107,13 +95,3 @@ not_put x e v m number none u w a b at_u at_w in_a in_b is_a is_b =
     let P : Checked → Type 0 = λ u. (q : Port) → Contains u.config.ports q → q.id ≡ number → Contains x.config.ports q in
     let there : P (edited e x) = λ q at is. elim (stays_or_put e x m q at) as (λ _. Contains x.config.ports q) [ inl stays ↦ stays | inr put ↦ absurd (none (q, put, is)) ] in
     ap (λ (q : Port). q.address) (one_port x v a b (of_two x (edited e x) u P (λ q at is. at) there at_u a in_a is_a) (of_two x (edited e x) w P (λ q at is. at) there at_w b in_b is_b) (is_a ∙ sym is_b))
-
--- a put of a port whose name none has leaves all ports
-pub port_added : (o : Port) (x : Checked) → All (λ q. port_name q ≢ port_name o) x.config.ports → AllIn x.config.ports (edited (Put (Objects.Port o)) x).config.ports
-port_added o x fresh a at =
-    let put = port_put o x in
-    subst (λ (c : Checked). Contains c.config.ports a) (sym put.2) (elim put.1 [
-      | inl r ↦ absurd (All-contains (λ (q : Port). port_name q ≢ port_name o) x.config.ports r.replaced fresh
-          (subst (λ (qs : List Port). Contains qs r.replaced) (sym r.was) (Contains-append_right r.before (r.replaced ∷ r.after) r.replaced (contains_here r.replaced r.after))) r.named)
-      | inr r ↦ subst (λ (qs : List Port). Contains qs a) (sym r.is) (Contains-append_left x.config.ports (o ∷ []) a at)
-    ])

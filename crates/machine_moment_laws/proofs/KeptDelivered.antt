@@ -15,7 +15,6 @@ use Rattle.ov_types.specs.declared.objects.LowValue.TheVariants as low
 use Rattle.ov_types.specs.declared.packet.Outcome.{Outcome}
 use Rattle.ov_types.specs.declared.packet.Outcome.TheVariants.{Delivered}
 use Rattle.ov_types.specs.declared.packet.Packet.{Packet}
-use Rattle.ov_types.specs.declared.prefix.Addr.{Addr}
 use Rattle.ov_types.specs.declared.verdict.Verdict.{Verdict}
 use Rattle.ov_types.specs.declared.verdict.Verdict.TheVariants as Says
 use Rattle.route_targets.specs.Forwarding.{forwarding, walk}
@@ -44,8 +43,8 @@ use Rattle.machine_moment_laws.specs.Windows.{AtMomentsOfWindows}
 use Rattle.machine_moment_laws.proofs.Arriving.{go_the_common_way}
 use Rattle.machine_moment_laws.proofs.ByOne.{delivered_by_one}
 use Rattle.machine_moment_laws.proofs.CommonMoments.{all_are_written, first_one, others}
-use Rattle.machine_moment_laws.specs.Kept.{HasOneAddress, IsDeliveredBy, IsInHand, KeptAreDelivered}
-use Rattle.machine_moment_laws.proofs.Ends.{AllOffer, SourceStays, few_visited, goes_on, heads, start_of, starts, way_of}
+use Rattle.machine_moment_laws.specs.Kept.{IsDeliveredBy, IsInHand, KeptAreDelivered}
+use Rattle.machine_moment_laws.proofs.Ends.{AllOffer, few_visited, goes_on, heads, start_of, starts, way_of}
 use Rattle.machine_moment_laws.proofs.Made.{valid}
 
 -- ---- the ends of two ways that one configuration offers are the same
@@ -73,7 +72,7 @@ one_instance from (Says.Denied rule) i j h g = absurd h
 one_instance from Says.NoDestination i j h g = absurd h
 
 module _ (b : Checked) (ds : List Checked) (written : (c : Checked) → Member c (b ∷ ds) → IsWritten (opening c)) (p : Packet) (number : PortNo) (ways : List Way)
-    (keep : Keep (b ∷ ds) p number ways) (one : HasOneAddress (b ∷ ds) p.source) (hand : IsInHand (b ∷ ds) p number ways) where
+    (keep : Keep (b ∷ ds) p number ways) (hand : IsInHand (b ∷ ds) p number ways) where
   abbrev cs : List Checked
   cs = b ∷ ds
 
@@ -101,14 +100,6 @@ module _ (b : Checked) (ds : List Checked) (written : (c : Checked) → Member c
   first_offers : AllOffer b ds written p number first.way first.track
   first_offers = offers first.way first.track first.all
 
-  abbrev address : Addr
-  address = (first_offers b (inl refl)).leaves.source.address
-
-  source_stays : SourceStays b ds written p number address
-  source_stays c m q at is =
-      let o = first_offers b (inl refl) in
-      one c b q o.leaves.source (contains_of cs c m) (contains_of cs b (inl refl)) at o.leaves.source_stands is o.leaves.source_number
-
   -- along which it is led by the entries of the list there
   record Led (n : Node) (from to : InstanceId) (rules : List AclRule) : Type 0 where
     by : IsLedBy cs n from to.0 p number rules
@@ -126,8 +117,8 @@ module _ (b : Checked) (ds : List Checked) (written : (c : Checked) → Member c
           instance = start_of t.way t.track;
           goes_on = goes_on c (written c m) p number t.way t.track (o c m) t.leads subnets rules has;
           services = visited t.way t.track;
-          few = few_visited b ds written p number address source_stays t.way t.track o;
-          way = way_of b ds written p number address source_stays t.way t.track o (λ s. hand t.way t.track t.among s t.all);
+          few = few_visited b ds written p number t.way t.track o;
+          way = way_of b ds written p number t.way t.track o (λ s. hand t.way t.track t.among s t.all);
         };
         way = t.way;
         among = t.among;
@@ -162,13 +153,13 @@ module _ (b : Checked) (ds : List Checked) (written : (c : Checked) → Member c
 
   led_by_all : IsLedByAll cs n from to.0 p number
   led_by_all = record {
-    heads = heads b ds written p number first.way first.track first_offers address source_stays;
+    heads = heads b ds written p number first.way first.track first_offers;
     ways = λ c subnets rules m has. (led c m subnets rules has).by;
   }
 
   pub delivered : (w : MachineState) → DeliversByOne cs w → GoesTheCommonWay cs w → IsDeliveredBy cs p number ways (forwarding (forwarders w) p)
   delivered w delivers goes =
-      let d = delivers n from to.0 p number (starts b ds written p number first.way first.track first_offers address source_stays) led_by_all in
+      let d = delivers n from to.0 p number (starts b ds written p number first.way first.track first_offers) led_by_all in
       let mine = led d.config d.among d.subnets d.rules d.has_list in
       let same : mine.by.instance ≡ d.led.instance = one_instance from (verdict_in from.0 p.tuple (Some (record { to = to.0; rules = d.rules }))) mine.by.instance d.led.instance mine.by.goes_on d.led.goes_on in
       let arrived : Delivered number d.led.services ≡ Delivered number mine.by.services =
@@ -197,9 +188,9 @@ module _ (b : Checked) (ds : List Checked) (written : (c : Checked) → Member c
       walk_in w i = walk (forwarders w) p.destination.0 64 (agent_at_node w n) [] i
 
 pub kept_are_delivered : AtMomentsOfWindows KeptAreDelivered
-kept_are_delivered size positive x written before asked begins es window form p number ways keep one hand =
+kept_are_delivered size positive x written before asked begins es window form p number ways keep hand =
     let w = after size (after size (start x) before) es in
     delivered (first_one size positive x written before asked begins es window form) (others size positive x written before asked begins es window form)
-    (all_are_written size positive x written before asked begins es window form) p number ways keep one hand w
+    (all_are_written size positive x written before asked begins es window form) p number ways keep hand w
     (delivered_by_one size positive x written before asked begins es window form)
     (go_the_common_way size positive x written before asked begins es window form)

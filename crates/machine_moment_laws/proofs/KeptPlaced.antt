@@ -71,8 +71,8 @@ forms_of_back (suc n) (e ∷ es) forms = forms_of_back n es (and_parts (has_even
 -- ---- a moment
 of_trace : (s : TiedNetwork) (cs : List Checked) → KeptAreDelivered cs s.network → KeptInOneEdit cs s.network → (e : Written) → OfOutcome (DeliversIfKept cs) e (answer_tied s (event_of e))
 of_trace s cs all one (written.Trace p) = record {
-  in_hand = λ number ways keep stays hand. all p number ways keep stays hand;
-  in_one_edit = λ few number ways keep stays. one few p number ways keep stays;
+  in_hand = λ number ways keep hand. all p number ways keep hand;
+  in_one_edit = λ few number ways keep. one few p number ways keep;
 }
 of_trace s cs all one (written.Edit d) = tt
 of_trace s cs all one (written.Deliver from to n) = tt

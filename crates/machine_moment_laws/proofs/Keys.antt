@@ -22,7 +22,7 @@ use Rattle.config_types.specs.declared.topology.Node.{Node}
 use Rattle.run_ties.specs.ConfigCheck.Checked.{Checked}
 use Rattle.node_laws.specs.NodeModel.Agent.{needed_by, publication, slice_in_use, told_of}
 use Rattle.node_laws.specs.NodeModel.Keys.{Key, Low, Publish, Row, Subscribe, Vpn}
-use Rattle.node_laws.specs.NodeModel.Maps.{Map, object, objects}
+use Rattle.node_laws.specs.NodeModel.Maps.{Map, as_object, object, objects}
 use Rattle.node_laws.specs.NodeModel.Members.{Member}
 use Rattle.node_laws.specs.NodeModel.Paths.{Holdings, Path, Told, has_target, own_paths, peer_paths, received}
 use Rattle.node_laws.specs.NodeModel.Reaching.{reoriginated_paths}
@@ -31,6 +31,7 @@ use Rattle.node_laws.specs.NodeModel.Uses.{imports}
 use Rattle.node_laws.specs.NodeModel.Values.{Value}
 use Rattle.node_laws.specs.NodeModel.Wants.{route_entry, slice, wanted_by_agent, wanted_by_peers}
 use Rattle.node_laws.proofs.NodeModel.Members.{any_in, entry_in, from_filter_map, from_map, in_filter, in_flat_map, in_left, in_map, in_right, none_some}
+use Rattle.node_laws.proofs.NodeModel.Objects.{object_of}
 use Rattle.node_laws.proofs.NodeModel.Orders.{key_total}
 use Rattle.node_laws.proofs.NodeModel.Selection.{selected_found}
 use Rattle.node_laws.proofs.NodeModel.Unknown.{target_in}
@@ -45,16 +46,17 @@ use Rattle.machine_laws.specs.Goal.{IsLaid, address_of}
 use Rattle.machine_laws.specs.Headline.{IsWritten}
 use Rattle.machine_laws.proofs.Told.{publication_of, publications, subscription_of, subscriptions_of}
 use Rattle.machine_laws.proofs.Views.{far, views}
-use Rattle.machine_moment_laws.specs.Common.{common, standing}
-use Rattle.machine_moment_laws.proofs.Above.{attached_same, needed_above, slice_above}
+use Rattle.machine_moment_laws.specs.Common.{common, placed, standing}
+use Rattle.machine_moment_laws.proofs.Above.{attached_same, needed_above, slice_placed, stood_above}
 use Rattle.machine_moment_laws.proofs.Here.{Here, here_laid, stands_among, stands_there}
-use Rattle.machine_moment_laws.proofs.CommonInUse.{slice_had}
+use Rattle.machine_moment_laws.proofs.CommonInUse.{slice_had, slice_some}
 use Rattle.machine_moment_laws.proofs.OfSome.{AreSomeTo, each_from}
-use Rattle.machine_moment_laws.proofs.Parts.{common_is_part, object_is}
+use Rattle.machine_moment_laws.proofs.Parts.{object_is}
+use Rattle.machine_moment_laws.proofs.Placed.{placed_in, slices_too}
 use Rattle.machine_moment_laws.proofs.Chains.{led_there}
 use Rattle.machine_moment_laws.proofs.Sides.{ordered, side_above}
 use Rattle.machine_laws.proofs.Numbers.{imports_itself}
-use Rattle.machine_moment_laws.proofs.Paths.{peer_there, serves, small, feed_above, in_places, is_control, own_there, path_there, site}
+use Rattle.machine_moment_laws.proofs.Paths.{peer_there, serves, small, feed_above, feed_placed, in_places, is_control, own_there, path_there, site}
 use Rattle.machine_moment_laws.proofs.Says.{LedSaid, RowLed, HostSaid, IsInSlice, Mine, RowSaid, Says, SaysBy, HoldsTo, lasting, mine, some_is}
 use Rattle.machine_moment_laws.proofs.Static.{attached_standing, imports_above}
 use Rattle.machine_moment_laws.proofs.Stays.{HasKeys}
@@ -84,6 +86,9 @@ module _ (b : Checked) (ds : List Checked) (written : (c : Checked) → Member c
   abbrev M : Map
   M = common cs
 
+  abbrev W : Map
+  W = placed cs
+
   module _ (r : ℕ) (x : Setup) (ss : List Session) (here : Here b ds written x (map nodes ss)) (stays : Each (HoldsTo b ds written r) ss) (some : Each (AreSomeTo cs r) ss) (st : Each (HoldStood cs b.topology.asn r) ss) where
     abbrev places : List NodePair
     places = map nodes ss
@@ -110,15 +115,15 @@ module _ (b : Checked) (ds : List Checked) (written : (c : Checked) → Member c
           let es = slice_in_use (agent_holdings x c.name (views (sessions_of c.name ss))) in
           let q = from_filter_map (λ (e : LowKey × LowValue). as_attachment e.0 e.1) to (objects M) attached in
           let there : Member (q.0.0, q.0.1) (slice M c.address) = subst (λ (a : Addr). Member (q.0.0, q.0.1) (slice M a)) at (belongs M q.0.0 q.0.1 to q.2 q.1) in
-          let v = slice_had b ds written r x ss here stays some st c stays_c rank q.0.0 q.0.1 there in
-          let same = attached_same q.0.0 q.0.1 v.0 to q.2 v.2 in
+          let v = slice_some b ds written r x ss here stays some st c stays_c rank q.0.0 q.0.1 (slices_too b ds c.address q.0.0 q.0.1 there) in
+          let same = attached_same q.0.0 q.0.1 v.0 to q.2 (stood_above b ds q.0.0 q.0.1 v.0 (ap as_object (object_of M q.0.0 q.0.1 q.1)) v.2) in
           let e : as_attachment q.0.0 v.0 ≡ Some to = ap (as_attachment q.0.0) (sym same) ∙ q.2 in
           in_told es (publication_of to) (in_left (publication_of to) (publications es) (subscriptions_of es) (in_flat_map (λ (e : LowKey × LowValue). publication e.0 e.1) (q.0.0, v.0) (publication_of to) es v.1 (published_in q.0.0 v.0 to e)))
 
-      agent_subscribes : (c : Node) → Member c (standing cs) → 2 ≤ r → (i : InstanceId) → Member i (needed_by (slice M c.address)) → is_some (get (told_of (slice_in_use (agent_holdings x c.name (views (sessions_of c.name ss))))) (Subscribe i)) ≡ true
+      agent_subscribes : (c : Node) → Member c (standing cs) → 2 ≤ r → (i : InstanceId) → Member i (needed_by (slice W c.address)) → is_some (get (told_of (slice_in_use (agent_holdings x c.name (views (sessions_of c.name ss))))) (Subscribe i)) ≡ true
       agent_subscribes c stays_c rank i needed =
           let es = slice_in_use (agent_holdings x c.name (views (sessions_of c.name ss))) in
-          let there = needed_above (slice M c.address) es (slice_had b ds written r x ss here stays some st c stays_c rank) i needed in
+          let there = needed_above (slice W c.address) es (slice_had b ds written r x ss here stays some st c stays_c rank) i needed in
           in_told es (subscription_of i) (in_right (subscription_of i) (publications es) (subscriptions_of es) (in_map subscription_of i (needed_by es) there))
 
       -- ---- a control node
@@ -129,8 +134,8 @@ module _ (b : Checked) (ds : List Checked) (written : (c : Checked) → Member c
         slice_told : s.far.role ≡ Agent → (k : LowKey) → 1 ≤ r → IsInSlice b ds written s.far.name k → is_some (get (wanted_by_agent h (told_on (agents_of x n) (view s))) (Low k)) ≡ true
         slice_told is_agent k rank said =
             let c = said.0 in
-            let above = feed_above b ds written r x ss here stays some st n s among m control rank in
-            let v = slice_above M h.feed above c.address k said.3 said.4 in
+            let there = feed_placed b ds written r x ss here stays some st n s among m control rank in
+            let v = slice_placed W h.feed there c.address k said.3 said.4 in
             let at : address_in (agents_of x n) s.far.name ≡ c.address =
             laid.addressed n (far s) (in_places b ds written r x ss here stays some st n s among m control) (is_control b ds written r x ss here stays some st n s among m control) is_agent
             ∙ ap (address_of x) (sym said.2) ∙ address_is c said.1 in
@@ -248,8 +253,8 @@ module _ (b : Checked) (ds : List Checked) (written : (c : Checked) → Member c
 
           go : (p q : Role) → s.near.role ≡ p → s.far.role ≡ q → (k : Key) → SaysBy b ds written (suc r) p q s.near.name s.far.name k → is_some (get (wanted_from x (views own) (record (view s) { other_role = q }) p) k) ≡ true
           go Configuration q e f (Low k) h =
-              let w = some_is (object M k) h.1 in
-              let v = common_is_part b ds (checked x) here.among k w.0 w.1 in
+              let w = some_is (object W k) h.1 in
+              let v = placed_in b ds (checked x) here.among k w.0 w.1 in
               ap is_some (object_is _ k v.0 v.1)
           go Controller Agent e f (Low k) h =
               subst (λ (c : Name). is_some (get (wanted_by_agent (control_holdings x c (views own)) (told_on (agents_of x c) (view s))) (Low k)) ≡ true) (sym m.name)

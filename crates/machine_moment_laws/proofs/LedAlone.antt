@@ -7,7 +7,6 @@ use Rattle.ov_types.specs.declared.rows.Entry.{Entry as RouteEntry}
 use Rattle.config_types.specs.declared.topology.Node.{Node}
 use Rattle.run_ties.specs.ConfigCheck.Checked.{Checked}
 use Rattle.node_laws.specs.NodeModel.Agent as agent
-use Rattle.node_laws.specs.NodeModel.Maps.{Map}
 use Rattle.node_laws.specs.NodeModel.Members.{Member}
 use Rattle.node_laws.specs.NodeModel.Uses.{is_hop}
 use Rattle.machine_model.specs.Events.{after}
@@ -15,10 +14,9 @@ use Rattle.machine_model.specs.Moments.{Each, nodes}
 use Rattle.machine_model.specs.Network.{agent_holdings, sessions_of, start}
 use Rattle.machine_model.specs.Session.{Session}
 use Rattle.machine_model.specs.Setup.{Setup, opening}
-use Rattle.machine_laws.specs.Compiled.{agent_rows}
 use Rattle.machine_laws.specs.Headline.{IsWritten}
 use Rattle.machine_laws.proofs.Views.{views}
-use Rattle.machine_moment_laws.specs.Common.{ChangesHands, IsLedAlone, NothingElseLeads, common, standing}
+use Rattle.machine_moment_laws.specs.Common.{ChangesHands, IsLedAlone, NothingElseLeads, rows_in_common, standing}
 use Rattle.machine_moment_laws.specs.Windows.{AtMomentsOfWindows}
 use Rattle.machine_moment_laws.proofs.Alone.{alone_in_network, held_route}
 use Rattle.machine_moment_laws.proofs.Here.{Here}
@@ -35,18 +33,15 @@ module _ (b : Checked) (ds : List Checked) (written : (c : Checked) → Member c
   abbrev cs : List Checked
   cs = b ∷ ds
 
-  abbrev M : Map
-  M = common cs
-
   module _ (r : ℕ) (x : Setup) (ss : List Session) (here : Here b ds written x (map nodes ss)) (lasting_stays : Each (HoldsTo b ds written r) ss) (some : Each (AreSomeTo cs r) ss) (st : Each (HoldStood cs b.topology.asn r) ss) (n : Node) (stays : Member n (standing cs)) where
     abbrev held : agent.Holdings
     held = agent_holdings x n.name (views (sessions_of n.name ss))
 
-    alone_in_use : 5 ≤ r → (i : InstanceId) (p q : Block) (hop other : RouteEntry) (d : ℕ) → is_hop i ≡ true → Member (route_at i p hop) (agent_rows M n.address).routes → Member (route_at i q other) (agent.routes held) → contains p d ≡ true → contains q d ≡ true → route_at i q other ≡ route_at i p hop
+    alone_in_use : 5 ≤ r → (i : InstanceId) (p q : Block) (hop other : RouteEntry) (d : ℕ) → is_hop i ≡ true → Member (route_at i p hop) (rows_in_common cs n.address).routes → Member (route_at i q other) (agent.routes held) → contains p d ≡ true → contains q d ≡ true → route_at i q other ≡ route_at i p hop
     alone_in_use rank i p q hop other d is m there in_p in_q = λ k. route_at i (at k) (same k)
       where
-        c : IsCompiled M n.address i p hop
-        c = compiled_is M n.address i p hop m
+        c : IsCompiled cs n.address i p hop
+        c = compiled_is cs n.address i p hop m
 
         told : RowStood cs i q other.next_hop other.label
         told = held_route b ds written r x ss here lasting_stays some st n stays rank i q other there
@@ -63,14 +58,14 @@ module _ (b : Checked) (ds : List Checked) (written : (c : Checked) → Member c
           | inr t ↦ host_hop b ds written r x ss here lasting_stays some st n stays t.to c.row hop other t.row c.hop_is (subnet_row b ds written i p c.row t is other.next_hop other.label told_at)
         ]
 
-    pub leads_alone : 5 ≤ r → (i : InstanceId) (p q : Block) (hop other : RouteEntry) (d : ℕ) → Member (route_at i p hop) (agent_rows M n.address).routes → (ChangesHands cs i p → ⊥) → Member (route_at i q other) (agent.routes held) → contains p d ≡ true → contains q d ≡ true → route_at i q other ≡ route_at i p hop
+    pub leads_alone : 5 ≤ r → (i : InstanceId) (p q : Block) (hop other : RouteEntry) (d : ℕ) → Member (route_at i p hop) (rows_in_common cs n.address).routes → (ChangesHands cs i p → ⊥) → Member (route_at i q other) (agent.routes held) → contains p d ≡ true → contains q d ≡ true → route_at i q other ≡ route_at i p hop
     leads_alone rank i p q hop other d m keeps there in_p in_q = by (is_hop i) refl
       where
         by : (a : Bool) → is_hop i ≡ a → route_at i q other ≡ route_at i p hop
         by true is = alone_in_use rank i p q hop other d is m there in_p in_q
         by false net = alone_in_network b ds written r x ss here lasting_stays some st n stays rank i p q hop other d net m keeps there in_p in_q
 
-    pub led_alone : 5 ≤ r → IsLedAlone M (ChangesHands cs) n.address (agent.rows held)
+    pub led_alone : 5 ≤ r → IsLedAlone cs n.address (agent.rows held)
     led_alone rank = record {
       alone = λ r s d m keeps there same in_r in_s.
           (λ i. ((same i, s.0.1), s.1)) ∙ leads_alone rank r.0.0 r.0.1 s.0.1 r.1 s.1 d m keeps (subst (λ (i : InstanceId). Member (route_at i s.0.1 s.1) (agent.routes held)) same there) in_r in_s;

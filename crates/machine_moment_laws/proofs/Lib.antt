@@ -46,6 +46,7 @@ pub mod AccessLists
 pub mod Stays
 pub mod Course
 pub mod Parts
+pub mod Placed
 pub mod Above
 pub mod Here
 pub mod Stood
@@ -81,11 +82,18 @@ pub mod KeptAddresses
 pub mod Interrupting
 pub mod KeptPlaced
 pub mod Pending
+pub mod Held
+pub mod Meeting
+pub mod Easy
+pub mod ToPeers
 pub mod Exchanges
 pub mod Wanting
 pub mod RecoveryLasting
-pub mod RecoveryRounds
 pub mod Unbroken
+pub mod Tells
+pub mod TellsEdits
+pub mod EasyMoments
+pub mod RecoveryRounds
 pub mod RecoveryMoments
 pub mod Depths
 pub mod Back

@@ -47,9 +47,10 @@ use Rattle.machine_laws.specs.Setups.{IsSoundSetup}
 use Rattle.machine_laws.proofs.Numbers.{instance_same}
 use Rattle.machine_laws.proofs.Objects.{is_object as in_low}
 use Rattle.machine_laws.proofs.Written.{sound_setup}
-use Rattle.machine_moment_laws.specs.Common.{common, common_object, entered, entered_of, enters_everywhere, has_circuits, has_instance, has_its_home, has_subnet, is_access_list, is_circuit_object, is_common_circuit, is_common_network, is_common_use, is_network, is_object, is_use_of, lefts_of, rights_of, same_hop, standing, stands_at, stands_in, subnets_of}
+use Rattle.machine_moment_laws.specs.Common.{common, common_object, entered, entered_of, enters_everywhere, has_circuits, has_instance, has_its_home, has_subnet, is_access_list, is_circuit_object, is_common_circuit, is_common_network, is_common_use, is_network, is_object, is_port_in, is_use_of, lefts_of, placed, rights_of, same_hop, standing, stands_at, stands_in, subnets_of}
 use Rattle.machine_moment_laws.proofs.Homes.{in_common, some_of}
 use Rattle.machine_moment_laws.proofs.Parts.{common_of, object_is}
+use Rattle.machine_moment_laws.proofs.Placed.{has_port, low_entry, port_itself}
 
 -- ---- lists
 pub all_are : {X : Type 0} (p : X → Bool) (xs : List X) → ((x : X) → Member x xs → p x ≡ true) → list_all p xs ≡ true
@@ -164,6 +165,19 @@ module _ (b : Checked) (ds : List Checked) (written : (c : Checked) → Member c
   port_common l q i a n stays each all =
       let v : LowValue = low.AttachPort q i a n.address in
       has_common (key.Attach l) v v (each b (inl refl)) (ap (λ c. cond c (Some v) None) (in_all_at (key.Attach l) v n stays each)) (common_network i i all)
+
+  -- a port that each configuration has at one node, that stands, and in one network, whatever its address
+  pub port_placed : (l : ℕ) (q : PortNo) (i : InstanceId) (n : Node) → Member n (standing cs) → ((c : Checked) → Member c cs → (a : Addr) × (object (low_in c) (key.Attach l) ≡ Some (low.AttachPort q i a n.address)))
+      → (a : Addr) × (object (placed cs) (key.Attach l) ≡ Some (low.AttachPort q i a n.address))
+  port_placed l q i n stays each =
+      let k : LowKey = key.Attach l in
+      let a : Addr = (each b (inl refl)).0 in
+      let v : LowValue = low.AttachPort q i a n.address in
+      let test : Map → Bool = λ f. is_port_in q i n.address (object f k) in
+      let all : (list_all test feeds && stands_at (standing cs) n.address) ≡ true =
+      and_from (list_all test feeds) (stands_at (standing cs) n.address)
+      (all_feeds test (λ c m. ap (is_port_in q i n.address) (each c m).1 ∙ port_itself q i (each c m).0 n.address)) (stands_where n stays) in
+      (a, has_port b ds k v (each b (inl refl)).1 (ap (λ (c : Bool). cond c (Some (low_entry k v)) None) all))
 
   -- a circuit that each configuration has at one service, at a node that stands
   pub record CircuitInAll (circuit : ℕ) : Type 0 where

@@ -1,20 +1,15 @@
 -- What the one configuration since a moment delivers.
 use Rattle.std.specs.Prelude.{◌≡◌, ◌≤◌, ℕ, ◌+◌, List, [], ◌∷◌, length}
 use Rattle.std.specs.List.{All, Any, Contains}
-use Rattle.std.specs.declared.option.Option.TheVariants.{Some}
 use Rattle.std.proofs.Common.{ap, arith, inl, inr, refl, subst, sym, ◌∙◌}
 use Rattle.std.proofs.lemmas.List.Elements.{All-contains}
-use Rattle.std.proofs.lemmas.Option.{same_Some}
 use Rattle.ov_types.specs.declared.numbers.PortNo.{PortNo}
 use Rattle.ov_types.specs.declared.numbers.ServiceNo.{ServiceNo}
 use Rattle.ov_types.specs.declared.packet.Outcome.TheVariants.{Delivered}
 use Rattle.ov_types.specs.declared.packet.Packet.{Packet}
 use Rattle.ov_types.proofs.FirstLemmas.{all_cons, any_of, contains_cases, contains_here}
 use Rattle.route_targets.specs.Forwarding.{forwarding}
-use Rattle.config_types.specs.declared.config.Port.{Port}
 use Rattle.run_ties.specs.ConfigCheck.Checked.{Checked}
-use Rattle.run_ties.specs.ConfigCheck.Finding.{port_numbered}
-use Rattle.reach_plain.proofs.ConfigCheck.Finders.{finds_port_numbered}
 use Rattle.reach_plain.specs.Reachability.{reachability}
 use Rattle.node_laws.specs.NodeModel.Members.{Member}
 use Rattle.hitless_laws.specs.Keeping.{IsValidAsWritten, Keep}
@@ -27,7 +22,6 @@ use Rattle.machine_model.specs.Network.{MachineState, start}
 use Rattle.machine_model.specs.Setup.{opening}
 use Rattle.machine_laws.specs.Headline.{IsWritten}
 use Rattle.machine_moment_laws.specs.Windows.{configurations}
-use Rattle.machine_moment_laws.specs.Kept.{HasOneAddress}
 use Rattle.machine_moment_laws.proofs.Made.{valid}
 use Rattle.machine_moment_laws.proofs.OneEdit.{in_hand}
 use Rattle.machine_moment_laws.specs.Recovery.{AtMomentsSince, rounds_in}
@@ -58,14 +52,6 @@ module _ (c : Checked) (written : IsWritten (opening c)) (p : Packet) (number : 
         offered = all_one Has way (o.0, all_one (λ z. Offers z p number way o.0) c o.1);
       }
 
-  -- its ports have one address each
-  one_address : HasOneAddress (c ∷ []) p.source
-  one_address x y a d at_x at_y in_a in_d is_a is_d =
-      let f = finds_port_numbered c.topology c.config p.source.0 (valid c written) in
-      let found : (z : Checked) (q : Port) → c ≡ z → Contains z.config.ports q → q.id ≡ p.source → port_numbered c.config p.source.0 ≡ Some q =
-      λ z q same at is. (f.some q).1 (subst (λ (z : Checked). Contains z.config.ports q) (sym same) at, ap (λ (n : PortNo). n.0) is) in
-      ap (λ (q : Port). q.address) (same_Some a d (sym (found x a (only c x at_x) in_a is_a) ∙ found y d (only c y at_y) in_d is_d))
-
 module _ (w : MachineState) (rounds : ℕ) where
   -- each way that it offers visits what the policies say
   of_one : (c : Checked) → IsWritten (opening c) → KeptAreDeliveredAgain rounds (c ∷ []) w → (p : Packet) (number : PortNo) (services : List ServiceNo)
@@ -75,7 +61,7 @@ module _ (w : MachineState) (rounds : ℕ) where
       let way = (led_where_delivered c ok p number).0 (services, is) in
       let visits_it : (v : Way) (track : Track) → Contains (way.0 ∷ []) v → All (λ x. Offers x p number v track) (c ∷ []) → Delivered number (visited v track) ≡ Delivered number services = λ v track at all.
       sym (visits c p number v track ok (subst (λ (v : Way). LeadsTo c.config p number v) (only way.0 v at) way.1) (All-contains (λ (x : Checked). Offers x p number v track) (c ∷ []) c all (contains_here c []))) ∙ is in
-      let d = again p number (way.0 ∷ []) (keep_one c written p number way.0 way.1) (one_address c written p number)
+      let d = again p number (way.0 ∷ []) (keep_one c written p number way.0 way.1)
       (in_hand c [] few (λ e m. elim m as (λ _. IsWritten (opening e)) [ inl same ↦ subst (λ (z : Checked). IsWritten (opening z)) same written | inr never ↦ absurd never ]) (λ e es never. absurd (nothing e es never)) p number (way.0 ∷ []))
       (length services) (λ v track at all. same_length (visited v track) services (visits_it v track at all)) enough in
       d.delivered ∙ visits_it d.way d.track d.among d.offered

@@ -113,7 +113,7 @@ use_is (Some (low.AttachCircuit c s n)) l r ls rs hops e h g = absurd (true≢fa
 use_is (Some (low.Acl s q)) l r ls rs hops e h g = absurd (true≢false (sym e))
 use_is None l r ls rs hops e h g = absurd (true≢false (sym e))
 
-same_object : (v : LowValue) (o : Option LowValue) → is_object v o ≡ true → o ≡ Some v
+pub same_object : (v : LowValue) (o : Option LowValue) → is_object v o ≡ true → o ≡ Some v
 same_object v (Some w) e = ap Some (same_Some w v (ap as_low_value ((same_value_decides (Object w) (Object v)).0 e)))
 same_object v None e = absurd (true≢false (sym e))
 
@@ -146,7 +146,7 @@ module _ (nodes : List Node) (feeds : List Map) where
   filtered {X} p xs x h m there = from_all (λ m. p m x) feeds m (from_filter (λ x. list_all (λ m. p m x) feeds) x xs h).1 there
 
   -- the other feeds have all of it
-  part_of_others : (k : LowKey) (v w : LowValue) → common_object nodes feeds k v ≡ Some w → (m : Map) → Member m feeds → (u : LowValue) × (object m k ≡ Some u) × IsPartOf w u
+  pub part_of_others : (k : LowKey) (v w : LowValue) → common_object nodes feeds k v ≡ Some w → (m : Map) → Member m feeds → (u : LowValue) × (object m k ≡ Some u) × IsPartOf w u
   part_of_others k (low.Instance is) w e m there =
       let q = some_when (list_all (λ m. is_network (object m k)) feeds) _ w e in
       subst (λ (w : LowValue). (u : LowValue) × (object m k ≡ Some u) × IsPartOf w u) q.1
@@ -175,7 +175,7 @@ module _ (nodes : List Node) (feeds : List Map) where
       (λ p h. filtered (λ m p. has_subnet p (lefts_of (object m k))) ls p h m there) (λ p h. filtered (λ m p. has_subnet p (rights_of (object m k))) rs p h m there))
 
   -- and so has the first
-  part_of_first : (k : LowKey) (v w : LowValue) → common_object nodes feeds k v ≡ Some w → IsPartOf w v
+  pub part_of_first : (k : LowKey) (v w : LowValue) → common_object nodes feeds k v ≡ Some w → IsPartOf w v
   part_of_first k (low.Instance is) w e =
       subst (λ (w : LowValue). IsPartOf w (low.Instance is)) (some_when (list_all (λ m. is_network (object m k)) feeds) _ w e).1
       (λ i h. (from_filter (λ i. list_all (λ m. has_instance i (network_imports (object m k))) feeds) i is h).0)

@@ -1,5 +1,5 @@
 -- The paths that a control node has of what is common: its own, and those that its peers tell.
-use Rattle.std.specs.Prelude.{◌≡◌, ◌≤◌, ◌++◌, ◌+◌, ◌⊎◌, ℕ, suc, List, [], ◌∷◌, map, length, true, false, cond}
+use Rattle.std.specs.Prelude.{◌≡◌, ◌≤◌, ◌++◌, ◌+◌, ◌⊎◌, ℕ, suc, List, [], ◌∷◌, map, length, is_some, true, false, cond}
 use Rattle.std.specs.FinMap.{entries, get}
 use Rattle.std.specs.List.{enumerate_from, filter, filter_map}
 use Rattle.std.specs.declared.option.Option.{Option}
@@ -9,6 +9,7 @@ use Rattle.std.proofs.lemmas.Bool.{true≢false}
 use Rattle.std.proofs.lemmas.Option.{same_Some}
 use Rattle.ov_types.specs.declared.numbers.InstanceId.{InstanceId}
 use Rattle.ov_types.specs.declared.numbers.Label.{Label as LabelNo}
+use Rattle.ov_types.specs.declared.objects.LowKey.{LowKey}
 use Rattle.ov_types.specs.declared.prefix.Addr.{Addr}
 use Rattle.ov_types.specs.declared.rows.NodeId.{NodeId}
 use Rattle.ov_types.specs.declared.vpn.VpnKey.{VpnKey}
@@ -19,7 +20,7 @@ use Rattle.run_ties.specs.ConfigCheck.Rules.{controller_names}
 use Rattle.run_ties.proofs.ConfigCheck.Validity.{valid_iff}
 use Rattle.transform_forwarding_laws.proofs.Valid.{one_node_at}
 use Rattle.node_laws.specs.NodeModel.Keys.{Key, Low, Publish, Vpn}
-use Rattle.node_laws.specs.NodeModel.Maps.{Map}
+use Rattle.node_laws.specs.NodeModel.Maps.{Map, object}
 use Rattle.node_laws.specs.NodeModel.Members.{Member}
 use Rattle.node_laws.specs.NodeModel.Paths.{Holdings, Path, Told, own_paths, peer_path, peer_paths}
 use Rattle.node_laws.specs.NodeModel.Ranks.{instance_in}
@@ -43,13 +44,14 @@ use Rattle.machine_laws.proofs.Placing.{agent_named}
 use Rattle.machine_laws.proofs.Views.{far, fars_are, heard, peer_maps, views}
 use Rattle.machine_laws.proofs.Written.{sound_setup}
 use Rattle.machine_model.proofs.Listed.{listed_member}
-use Rattle.machine_moment_laws.specs.Common.{common, standing}
-use Rattle.machine_moment_laws.proofs.Above.{held_above}
+use Rattle.machine_moment_laws.specs.Common.{common, placed, standing}
+use Rattle.machine_moment_laws.proofs.Above.{held_above, held_placed}
 use Rattle.machine_moment_laws.proofs.Here.{Here, config_lasts, here_laid, here_sound, lasts, site_lasts, standing_lasts, stands_among, stands_there}
 use Rattle.machine_moment_laws.proofs.Homes.{known_above}
-use Rattle.machine_moment_laws.proofs.OfSome.{AreSomeTo, fed_some, role_is}
+use Rattle.machine_moment_laws.proofs.OfSome.{AllOfSome, AreSomeTo, fed_some, role_is}
 use Rattle.machine_moment_laws.proofs.Seats.{enumerated}
 use Rattle.machine_moment_laws.proofs.Parts.{IsAbove}
+use Rattle.machine_moment_laws.proofs.Placed.{IsPlacedIn, in_placed}
 use Rattle.machine_moment_laws.proofs.Says.{HoldsTo, Mine, SaysBy, both_last, config_is, feed_is, lasting, mine, some_is}
 use Rattle.machine_moment_laws.proofs.Static.{attached_in, attached_standing}
 use Rattle.machine_moment_laws.proofs.Stood.{EntryStood, HoldStood}
@@ -80,6 +82,9 @@ module _ (b : Checked) (ds : List Checked) (written : (c : Checked) → Member c
 
   abbrev M : Map
   M = common cs
+
+  abbrev W : Map
+  W = placed cs
 
   abbrev asn : ℕ
   asn = b.topology.asn
@@ -117,14 +122,23 @@ module _ (b : Checked) (ds : List Checked) (written : (c : Checked) → Member c
       lasting_with : (t : Session) → Mine b ds written r x n t → lasts b ds written t.far.name ≡ true → lasting b ds written t ≡ true
       lasting_with t q e = both_last (lasts b ds written t.near.name) (lasts b ds written t.far.name) (ap (lasts b ds written) q.name ∙ last) e
 
-      -- its feed has all of the common part
-      pub feed_above : 1 ≤ r → IsAbove M h.feed
-      feed_above rank =
+      -- its feed has all of the common part, and all that is placed
+      fed_by : (P : Map → Type 0) → 1 ≤ r → ((f : Map) → ((k : LowKey) → is_some (object W k) ≡ true → is_some (get f (Low k)) ≡ true) → AllOfSome cs f → P f) → P h.feed
+      fed_by P rank whole =
           let f = laid.fed n (far s) in_places is_control in
-          feed_is (IsAbove M) own (each_weaker (Mine b ds written r x n) (λ t. t.far.role ≡ Configuration → IsAbove M t.near.held) (λ t q e.
+          feed_is P own (each_weaker (Mine b ds written r x n) (λ t. t.far.role ≡ Configuration → P t.near.held) (λ t q e.
           let l = lasting_with t q (ap (lasts b ds written) (config_is x t.far.name (sym q.far_role ∙ e)) ∙ config_lasts b ds written) in
-          held_above b ds t.near.held (λ k is. q.held l (Low k) (subst (λ (p : Role). SaysBy b ds written r p t.near.role t.far.name t.near.name (Low k)) (sym e) (rank, is))) (fed_some cs r rank (t.far.name, t.far.role) (t.near.name, t.near.role) t.near.held e q.some)) own mines)
+          whole t.near.held (λ k is. q.held l (Low k) (subst (λ (p : Role). SaysBy b ds written r p t.near.role t.far.name t.near.name (Low k)) (sym e) (rank, is))) (fed_some cs r rank (t.far.name, t.far.role) (t.near.name, t.near.role) t.near.held e q.some)) own mines)
           f.0 (subst (Member (f.0, Configuration)) (sym (fars_are n ss)) f.1)
+
+      placed_some : (k : LowKey) → is_some (object M k) ≡ true → is_some (object W k) ≡ true
+      placed_some k e = let w = some_is (object M k) e in ap is_some (in_placed b ds k w.0 w.1)
+
+      pub feed_above : 1 ≤ r → IsAbove M h.feed
+      feed_above rank = fed_by (IsAbove M) rank (λ f has some. held_above b ds f (λ k is. has k (placed_some k is)) some)
+
+      pub feed_placed : 1 ≤ r → IsPlacedIn W h.feed
+      feed_placed rank = fed_by (IsPlacedIn W) rank (held_placed b ds)
 
       -- ---- what the agent of a node that stands told here
       pub record IsTold (c : Node) (a : Told) : Type 0 where

@@ -1,43 +1,47 @@
--- A round that counts leads up to the next rank.
+-- A round leads up to the next rank, also where sessions are down that are new.
+use mathlib.Core.Bool.{beq}
+use Rattle.std.specs.FinMap.{empty}
 use Rattle.std.specs.Prelude.{◌≡◌, ◌≤◌, ◌+◌, ℕ, zero, suc, Bool, List, [], ◌∷◌, ◌++◌, ◌&&◌, ◌==◌, map, length, not, true, false, cond}
 use Rattle.std.specs.Cmp.Lexicographic.{bytes_decides}
 use Rattle.std.specs.List.{AllByRecursion, flat_map}
 use Rattle.std.specs.Option.{option_map, unwrap_or}
 use Rattle.std.specs.declared.option.Option.{Option}
-use Rattle.std.specs.declared.option.Option.TheVariants.{Some}
+use Rattle.std.specs.declared.option.Option.TheVariants.{None, Some}
 use Rattle.std.proofs.Common.{ap, arith, inl, inr, refl, subst, sym, ◌∙◌}
-use Rattle.std.proofs.lemmas.Bool.{and_from, and_left, and_parts, eqb-true, true≢false}
+use Rattle.std.proofs.lemmas.Bool.{and_from, and_left, and_parts, cases_lt, eqb-true, true≢false}
 use Rattle.ov_types.specs.First.{same_name}
 use Rattle.run_ties.specs.ConfigCheck.Checked.{Checked}
+use Rattle.node_laws.specs.NodeModel.Keys.{Key, key_cmp, Low, Publish, Row, Subscribe, Vpn}
 use Rattle.node_laws.specs.NodeModel.Maps.{Map}
 use Rattle.node_laws.specs.NodeModel.Members.{Member}
 use Rattle.node_laws.specs.NodeModel.Step.{Confirmed, Opened, Phase, Up}
-use Rattle.machine_model.specs.Events.{after, next}
-use Rattle.machine_model.specs.Moments.{ArePositive, AreWhole, Each, NodePair, TellsWanted, nodes}
-use Rattle.machine_model.specs.Network.{MachineState, View, is_at, sessions_of, view, views_of, wanted}
+use Rattle.machine_model.specs.Moments.{ArePositive, Each, NodePair, TellsWanted, nodes}
+use Rattle.machine_model.specs.Network.{MachineState, is_at, sessions_of, view, views_of, wanted}
 use Rattle.machine_model.specs.Session.{Agent, Carries, Configuration, Controller, Message, Role, Session, are_peers, arrived, is_peering, is_up_phase, may_send, may_send_at, passed, turned, waiting}
 use Rattle.machine_model.specs.Setup.{Name, checked, opening}
-use Rattle.machine_model.specs.Steps.{Due, change_session, deliver, due_at, dues, in_flight, joins, pass, repeat, round, session_in}
+use Rattle.machine_model.specs.Steps.{Due, change_session, deliver, deliver_all, deliver_due, due_at, dues, in_flight, joins, notice_stands, pass, repeat, round, session_in}
 use Rattle.machine_model.proofs.Apart.{no_twins}
 use Rattle.machine_model.proofs.AtRest.{no_messages}
-use Rattle.machine_model.proofs.Calm.{ArrivalOf, arrives, passed_easy, telling}
-use Rattle.machine_model.proofs.NetworkFact.{passed_nodes}
+use Rattle.machine_model.proofs.NetworkFact.{found, passed_nodes}
 use Rattle.machine_model.proofs.NodesFact.{arrived_nodes, pass_nodes, session_nodes}
-use Rattle.machine_model.proofs.RoundFact.{AreCalm, IsCalm, as_event, fact_joined, round_same}
-use Rattle.machine_model.proofs.SessionFact.{Fact-turned, Joined, arrived_keeps, greetings, live_receiver, meets, passed_keeps}
-use Rattle.machine_model.proofs.ToldNext.{AllHaveTold}
+use Rattle.machine_model.proofs.OvSync.KeyedLaws.{empty_values}
+use Rattle.machine_model.proofs.RoundFact.{IsCalm}
+use Rattle.machine_model.proofs.SessionFact.{Joined, greetings, live_receiver, meets}
 use Rattle.machine_model.proofs.Twins.{Found, IsProper, NoTwins, all_to_own, each_and, each_weaker, found_each, itself, own_to_all, same_name_sym, swap_and, with_session_each}
 use Rattle.machine_laws.specs.Headline.{IsWritten}
-use Rattle.machine_laws.specs.Settling.{FairMessages}
+use Rattle.machine_laws.specs.Settling.{FairMap, FairMessages}
 use Rattle.machine_laws.proofs.AtNode.{each_at_node}
 use Rattle.machine_laws.proofs.Final.{laid_out}
 use Rattle.machine_moment_laws.proofs.Here.{Here, here_sound, lasts, site_lasts}
 use Rattle.machine_moment_laws.proofs.OfSome.{some_to}
-use Rattle.machine_moment_laws.proofs.Says.{Mine, Says, both_last, mine}
-use Rattle.machine_moment_laws.proofs.Stays.{AreKept}
+use Rattle.machine_moment_laws.proofs.Easy.{IsEasy, IsNew, easy_arrived, easy_far, easy_near, easy_passed, easy_turned}
+use Rattle.machine_moment_laws.proofs.Meeting.{AreTaken, calm_turned}
+use Rattle.machine_moment_laws.proofs.Says.{Mine, Says, SaysBy, both_last, mine}
+use Rattle.machine_moment_laws.proofs.Tells.{AllTell}
+use Rattle.machine_moment_laws.proofs.ToPeers.{AreRoutes, HasToldPeer, HaveToldPeers}
 use Rattle.machine_moment_laws.proofs.Stood.{stood}
-use Rattle.machine_moment_laws.proofs.Exchanges.{Exchange, Fine, Good, IsBack, NoOpen, exchange_arrived, exchange_idle, exchange_more, exchange_passed, exchange_turned}
-use Rattle.machine_moment_laws.proofs.Pending.{pends_over, pends_starts, taking, taking_changes, told_to}
+use Rattle.machine_moment_laws.proofs.Exchanges.{Exchange, Fine, Good, IsBack, OpensEarly, exchange_arrived, exchange_idle, exchange_more, exchange_passed, exchange_turned}
+use Rattle.machine_moment_laws.proofs.Pending.{Pends, pends_over, pends_starts, taking, taking_changes, told_to}
 use Rattle.machine_moment_laws.proofs.RecoveryLasting.{keeps}
 use Rattle.machine_moment_laws.proofs.Wanting.{Tells, good_weaker, holds_back, some_back, stood_back, wants_good}
 
@@ -107,32 +111,9 @@ module _ (size : Name → Message → ℕ) (positive : ArePositive size) (b : Ch
   abbrev cs : List Checked
   cs = b ∷ ds
 
-  -- ---- sessions that are calm
-  joined_turned : (s : Session) → Joined size s → Joined size (turned s)
-  joined_turned s j = elim (Fact-turned size s (inl j)) as (λ _. Joined size (turned s)) [ inl k ↦ k | inr d ↦ absurd (true≢false (sym d.down ∙ j.whole)) ]
-
-  calm_turned : (s : Session) → IsCalm size positive s → IsCalm size positive (turned s)
-  calm_turned s c = (joined_turned s c.0, c.2, c.1)
-
-  calm_arrived : (s : Session) → IsCalm size positive s → IsCalm size positive (arrived s)
-  calm_arrived s c = by s.far.flight (arrives size s c.0 c.1)
-    where
-      by : (f : List Message) → ArrivalOf f s (arrived s) → IsCalm size positive (arrived s)
-      by [] a = subst (IsCalm size positive) (sym a) c
-      by (m ∷ ms) a = (fact_joined size positive (arrived s) (arrived_keeps size positive s (inl c.0)) a.whole, a.near_breaks ∙ c.1, a.far_breaks ∙ c.2)
-
-  calm_passed : (m : Map) (s : Session) → IsCalm size positive s → IsCalm size positive (passed m s)
-  calm_passed m s c =
-      let easy = passed_easy m s c.0.whole c.1 in
-      let whole : (passed m s).is_down ≡ false = ap (λ (t : Session). t.is_down) easy ∙ elim (may_send s) as (λ b. (cond b (telling m s) s).is_down ≡ false) [ true ↦ c.0.whole | false ↦ c.0.whole ] in (
-        fact_joined size positive (passed m s) (passed_keeps size positive m s (inl c.0)) whole,
-        ap (λ (t : Session). t.near.breaks) easy ∙ elim (may_send s) as (λ b. (cond b (telling m s) s).near.breaks ≡ []) [ true ↦ c.1 | false ↦ c.1 ],
-        ap (λ (t : Session). t.far.breaks) easy ∙ elim (may_send s) as (λ b. (cond b (telling m s) s).far.breaks ≡ []) [ true ↦ c.2 | false ↦ c.2 ],
-      )
-
   -- ---- a session during a round
   abbrev pub DuringOf : ℕ → ℕ → ℕ → Session → Type 0
-  DuringOf r i o s = IsCalm size positive s × (IsBack b ds written r s × Exchange b ds written (nodes s) (suc r) i o s)
+  DuringOf r i o s = IsEasy size positive s × (IsBack b ds written size positive r s × Exchange b ds written (nodes s) (suc r) i o s)
 
   abbrev pub During : ℕ → (Name → Name → ℕ) → Session → Type 0
   During r left s = DuringOf r (left (nodes s).1.0 (nodes s).0.0) (left (nodes s).0.0 (nodes s).1.0) s
@@ -141,27 +122,30 @@ module _ (size : Name → Message → ℕ) (positive : ArePositive size) (b : Ch
   of_more r i o j q s h k d = (d.0, (d.1.0, exchange_more b ds written (nodes s) (suc r) i o j q s h k d.1.1))
 
   of_turned : (r i o : ℕ) (s : Session) → DuringOf r i o s → DuringOf r o i (turned s)
-  of_turned r i o s d = (calm_turned s d.0, ((keeps b ds written size r).both s d.1.0, exchange_turned b ds written (nodes s) (suc r) i o s d.1.1))
+  of_turned r i o s d = (easy_turned size positive s d.0, ((keeps b ds written size positive r).both s d.1.0, exchange_turned b ds written (nodes s) (suc r) i o s d.1.1))
 
   of_arrived : (r i o : ℕ) (s : Session) → DuringOf r (suc i) o s → DuringOf r i o (arrived s)
   of_arrived r i o s d = (
-    calm_arrived s d.0,
+    easy_arrived size positive s d.0,
     (
-      (keeps b ds written size r).arrives s d.1.0,
-      subst (λ (p : NodePair). Exchange b ds written p (suc r) i o (arrived s)) (sym (arrived_nodes s)) (exchange_arrived b ds written size positive (nodes s) (suc r) i o s d.0 none d.1.1),
+      (keeps b ds written size positive r).arrives s d.1.0,
+      subst (λ (p : NodePair). Exchange b ds written p (suc r) i o (arrived s)) (sym (arrived_nodes s)) (exchange_arrived b ds written size positive (nodes s) (suc r) i o s d.0 early d.1.1),
     ),
   )
     where
-      none : NoOpen b ds written (nodes s) s
-      none l k ms is =
-          (subst (AreKept (Says b ds written r) (s.far.name, s.far.role) (s.near.name, s.near.role)) is
-          (d.1.0.0 (both_last (lasts b ds written s.near.name) (lasts b ds written s.far.name) l k)).far_flight).0
+      later : suc r ≤ 1 → suc (suc r) ≤ 2
+      later h = omega (arith, h)
+
+      early : OpensEarly b ds written (nodes s) (suc r) s
+      early l k ms is =
+          later (subst (AreTaken (Says b ds written r) r (s.far.name, s.far.role) (s.near.name, s.near.role)) is
+          (d.1.0.0 (both_last (lasts b ds written s.near.name) (lasts b ds written s.far.name) l k)).1.far_flight).0
 
   of_passed : (r i o : ℕ) (m : Map) (s : Session) → Tells b ds written (suc r) s m → DuringOf r i o s → DuringOf r i o (passed m s)
   of_passed r i o m s g d = (
-    calm_passed m s d.0,
+    easy_passed size positive m s d.0,
     (
-      (keeps b ds written size r).passes m s (good_weaker b ds written r (s.near.name, s.near.role) (s.far.name, s.far.role) m g) d.1.0,
+      (keeps b ds written size positive r).passes m s (good_weaker b ds written r (s.near.name, s.near.role) (s.far.name, s.far.role) m g) d.1.0,
       subst (λ (p : NodePair). Exchange b ds written p (suc r) i o (passed m s)) (sym (passed_nodes m s)) (exchange_passed b ds written size positive (nodes s) (suc r) i o m s d.0 g d.1.1),
     ),
   )
@@ -187,7 +171,7 @@ module _ (size : Name → Message → ℕ) (positive : ArePositive size) (b : Ch
         subst (Here b ds written w.setup) (sym (pass_nodes n w)) g.0,
         each_at_node (During r left) (λ s. Tells b ds written (suc r) s (W s)) (During r left) n (λ s. passed (W s) s) near
             (λ s d t. turn (passed (W (turned s)) (turned s)) (near (turned s) (turn s d) t)) (λ s d. d) w.sessions g.1
-            (wants_good b ds written r w.setup w.sessions g.0 (each_weaker (During r left) (IsBack b ds written r) (λ s d. d.1.0) w.sessions g.1) n),
+            (wants_good b ds written size positive r w.setup w.sessions g.0 (each_weaker (During r left) (IsBack b ds written size positive r) (λ s d. d.1.0) w.sessions g.1) n),
       )
 
   -- ---- a delivery
@@ -242,7 +226,7 @@ module _ (size : Name → Message → ℕ) (positive : ArePositive size) (b : Ch
         let near_name : s.near.name ≡ to = (bytes_decides s.near.name to).0 names.0 in
         let far_name : s.far.name ≡ from = (bytes_decides s.far.name from).0 names.1 in
         let there : session_in w.sessions to from ≡ Some s = (λ i. session_in w.sessions (sym near_name i) (sym far_name i)) ∙ found in
-        let empty : length s.far.flight ≡ 0 = sym (ap (λ (o : Option Session). unwrap_or (option_map waiting o) 0) there ∙ ap (λ b. cond b 1 (length s.far.flight)) d.0.0.near_notice) ∙ none in
+        let empty : length s.far.flight ≡ 0 = sym (ap (λ (o : Option Session). unwrap_or (option_map waiting o) 0) there ∙ ap (λ b. cond b 1 (length s.far.flight)) (easy_near size positive s d.0)) ∙ none in
         let q = ready s is proper d in
         (q.0, (q.1.0, exchange_idle b ds written (nodes s) (suc r) (suc (less s.far.name s.near.name)) (less s.far.name s.near.name) (less s.near.name s.far.name) s (no_messages s.far.flight empty) q.1.1))
 
@@ -271,9 +255,22 @@ module _ (size : Name → Message → ℕ) (positive : ArePositive size) (b : Ch
           )
         ] refl
 
-  delivers_on : (r : ℕ) (left : Name → Name → ℕ) (from to : Name) (n : ℕ) (w : MachineState) → Going r (still from to n left) w → Going r (still from to 0 left) (repeat n (deliver from to) w)
-  delivers_on r left from to zero w g = g
-  delivers_on r left from to (suc n) w g = delivers_on r left from to n (deliver from to w) (deliver_on r left from to n w g)
+  -- no notice is due
+  no_notice : (r : ℕ) (left : Name → Name → ℕ) (d : Due) (w : MachineState) → Going r left w → notice_stands w d ≡ false
+  no_notice r left d w g = by (session_in w.sessions d.to d.from) refl
+    where
+      by : (o : Option Session) → session_in w.sessions d.to d.from ≡ o → unwrap_or (option_map (λ (s : Session). s.near.notice) o) false ≡ false
+      by None is = refl
+      by (Some s) is = easy_near size positive s (found (IsEasy size positive) (easy_turned size positive) w.sessions d.to d.from (each_weaker (During r left) (IsEasy size positive) (λ s d. d.0) w.sessions g.1) s is)
+
+  due_on : (r : ℕ) (left : Name → Name → ℕ) (d : Due) (n : ℕ) (w : MachineState) → d.is_notice ≡ false → Going r (still d.from d.to (suc n) left) w → Going r (still d.from d.to n left) (deliver_due d w)
+  due_on r left d n w e g =
+      let same : deliver_due d w ≡ deliver d.from d.to w = λ i. cond (beq (no_notice r (still d.from d.to (suc n) left) d w g i) (e i)) (deliver d.from d.to w) w in
+      subst (Going r (still d.from d.to n left)) (sym same) (deliver_on r left d.from d.to n w g)
+
+  delivers_on : (r : ℕ) (left : Name → Name → ℕ) (d : Due) (n : ℕ) (w : MachineState) → d.is_notice ≡ false → Going r (still d.from d.to n left) w → Going r (still d.from d.to 0 left) (repeat n (deliver_due d) w)
+  delivers_on r left d zero w e g = g
+  delivers_on r left d (suc n) w e g = delivers_on r left d n (deliver_due d w) e (due_on r left d n w e g)
 
   going_less : (r : ℕ) (left : Name → Name → ℕ) (from to : Name) (w : MachineState) → Going r (still from to 0 left) w → Going r left w
   going_less r left from to w g = (
@@ -283,12 +280,11 @@ module _ (size : Name → Message → ℕ) (positive : ArePositive size) (b : Ch
         (none_less (goes_so from to s.far.name s.near.name) (left s.far.name s.near.name)) (none_less (goes_so from to s.near.name s.far.name) (left s.near.name s.far.name)) d) w.sessions g.1,
   )
 
-  dues_on : (r : ℕ) (es : List Due) (w : MachineState) → Going r (owed es) w → Going r (owed []) (after size w (map (as_event size positive) es))
-  unfolding next
-  dues_on r [] w g = g
-  dues_on r (d ∷ es) w g =
-      let v = repeat d.count (deliver d.from d.to) w in
-      dues_on r es v (going_less r (owed es) d.from d.to v (delivers_on r (owed es) d.from d.to d.count w g))
+  dues_on : (r : ℕ) (es : List Due) (w : MachineState) → AllByRecursion (λ d. d.is_notice ≡ false) es → Going r (owed es) w → Going r (owed []) (deliver_all es w)
+  dues_on r [] w e g = g
+  dues_on r (d ∷ es) w e g =
+      let v = repeat d.count (deliver_due d) w in
+      dues_on r es v e.1 (going_less r (owed es) d.from d.to v (delivers_on r (owed es) d d.count w e.0 g))
 
   -- ---- where the round begins: what is in flight is what is owed
   abbrev Enough : List Due → Session → Type 0
@@ -315,15 +311,19 @@ module _ (size : Name → Message → ℕ) (positive : ArePositive size) (b : Ch
   later_due false true k w l m h = omega (arith, h)
   later_due false false k w l m h = omega (arith, h)
 
-  enough_each : (ss : List Session) → Each (IsCalm size positive) ss → Each (Enough (flat_map due_of ss)) ss
+  no_notices : (ss : List Session) → Each (IsEasy size positive) ss → AllByRecursion (λ d. d.is_notice ≡ false) (flat_map due_of ss)
+  no_notices [] c = tt
+  no_notices (s ∷ ss) c = (easy_far size positive s c.0, (easy_near size positive s c.0, no_notices ss c.1))
+
+  enough_each : (ss : List Session) → Each (IsEasy size positive) ss → Each (Enough (flat_map due_of ss)) ss
   enough_each [] c = tt
   enough_each (s ∷ ss) c =
       let rest = flat_map due_of ss in
       let n = s.near.name in
       let f = s.far.name in (
         (
-          second_due (goes_so n f f n) (goes_so f n f n) (waiting (turned s)) (owed rest f n) (length s.far.flight) (waiting s) (same_both f n) (ap (λ b. cond b 1 (length s.far.flight)) c.0.0.near_notice),
-          first_due (goes_so n f n f) 0 (cond (goes_so f n n f) (waiting s) 0 + owed rest n f) (length s.near.flight) (waiting (turned s)) (same_both n f) (ap (λ b. cond b 1 (length s.near.flight)) c.0.0.far_notice),
+          second_due (goes_so n f f n) (goes_so f n f n) (waiting (turned s)) (owed rest f n) (length s.far.flight) (waiting s) (same_both f n) (ap (λ b. cond b 1 (length s.far.flight)) (easy_near size positive s c.0)),
+          first_due (goes_so n f n f) 0 (cond (goes_so f n n f) (waiting s) 0 + owed rest n f) (length s.near.flight) (waiting (turned s)) (same_both n f) (ap (λ b. cond b 1 (length s.near.flight)) (easy_far size positive s c.0)),
         ),
         each_weaker (Enough rest) (Enough (due_at (turned s) ∷ due_at s ∷ rest))
             (λ t e. (
@@ -333,66 +333,155 @@ module _ (size : Name → Message → ℕ) (positive : ArePositive size) (b : Ch
       )
 
   -- ---- and what was sent is good up to the next rank
-  module _ (r : ℕ) (w : MachineState) (here : Here b ds written w.setup (map nodes w.sessions)) (back_to : Each (IsBack b ds written r) w.sessions) (calm : AreCalm size positive w) (told : AllHaveTold w) where
-    abbrev SentGood : Session → Type 0
-    SentGood s = Tells b ds written (suc r) s s.near.sent
+  abbrev pub AreEasy : MachineState → Type 0
+  AreEasy w = Each (IsEasy size positive) w.sessions
 
-    may_of : (n : Name) (s : Session) → Joined size s → Mine b ds written r w.setup n s → may_send s ≡ true
-    may_of n s j m =
-        elim (is_peering s) as (λ b. is_peering s ≡ b → may_send_at b s.near.phase ≡ true) [
-          | true ↦ λ is.
-              let p = peers_are s.near.role s.far.role is in
-              let l = both_last (lasts b ds written s.near.name) (lasts b ds written s.far.name)
-              (site_lasts b ds written w.setup (map nodes w.sessions) here s.near.name (m.near_site p.0)) (site_lasts b ds written w.setup (map nodes w.sessions) here s.far.name (m.far_site p.1)) in
-              ap is_up_phase (m.up l)
-          | false ↦ λ _. ap not (live_receiver (is_peering s) s.near.phase s.far.phase j.inward.phases)
+  -- between control nodes nothing is said in the first two rounds
+  none_yet : (r : ℕ) (p q : Role) (from to : Name) (k : Key) → are_peers p q ≡ true → suc r ≤ 2 → SaysBy b ds written (suc r) p q from to k → ⊥
+  none_yet r Controller Controller from to (Vpn k) e h (inl says) = absurd (omega (arith, h, says.rank))
+  none_yet r Controller Controller from to (Vpn k) e h (inr says) = late says.depth says.rank
+    where
+      late : (d : ℕ) → 4 + suc d ≤ suc r → ⊥
+      late d g = omega (arith, h, g)
+  none_yet r Controller Controller from to (Low k) e h says = says
+  none_yet r Controller Controller from to (Row i prefix) e h says = says
+  none_yet r Controller Controller from to (Publish i prefix) e h says = says
+  none_yet r Controller Controller from to (Subscribe i) e h says = says
+  none_yet r Controller Configuration from to k e h says = absurd (true≢false (sym e))
+  none_yet r Controller Agent from to k e h says = absurd (true≢false (sym e))
+  none_yet r Configuration q from to k e h says = absurd (true≢false (sym e))
+  none_yet r Agent q from to k e h says = absurd (true≢false (sym e))
+
+  -- of routes no object is asked, and where they lead is asked later
+  routes_some : (r : ℕ) (from to : Name × Role) (m : Map) → AreRoutes m → FairMap (some_to cs r) from to m
+  routes_some r from to m routes (Vpn k) v e = λ rank. tt
+  routes_some r from to m routes (Low k) v e = absurd (routes (Low k) v e)
+  routes_some r from to m routes (Row i prefix) v e = absurd (routes (Row i prefix) v e)
+  routes_some r from to m routes (Publish i prefix) v e = absurd (routes (Publish i prefix) v e)
+  routes_some r from to m routes (Subscribe i) v e = absurd (routes (Subscribe i) v e)
+
+  routes_stood : (r : ℕ) (from to : Name × Role) (m : Map) → suc r ≤ 2 → AreRoutes m → FairMap (stood cs b.topology.asn (suc r)) from to m
+  routes_stood r from to m h routes (Vpn k) v e = λ rank. absurd (omega (arith, h, rank))
+  routes_stood r from to m h routes (Low k) v e = absurd (routes (Low k) v e)
+  routes_stood r from to m h routes (Row i prefix) v e = absurd (routes (Row i prefix) v e)
+  routes_stood r from to m h routes (Publish i prefix) v e = absurd (routes (Publish i prefix) v e)
+  routes_stood r from to m h routes (Subscribe i) v e = absurd (routes (Subscribe i) v e)
+
+  module _ (r : ℕ) (w : MachineState) (here : Here b ds written w.setup (map nodes w.sessions)) (back_to : Each (IsBack b ds written size positive r) w.sessions) (easy : AreEasy w) (told : AllTell w) (routes : Each HaveToldPeers w.sessions) where
+    abbrev pub SentGood : Session → Type 0
+    SentGood s = IsCalm size positive s → Tells b ds written (suc r) s s.near.sent
+
+    -- what is known of a session of a node
+    record Owns (n : Name) (s : Session) : Type 0 where
+      known : Mine b ds written r w.setup n s
+      to_peer : HasToldPeer s
+
+    -- a control node may send to another one from rank 2 on
+    up_by_then : (n : Name) (s : Session) → Owns n s → is_peering s ≡ true → 2 ≤ r → may_send s ≡ true
+    up_by_then n s o is rank =
+        let p = peers_are s.near.role s.far.role is in
+        let l = both_last (lasts b ds written s.near.name) (lasts b ds written s.far.name)
+        (site_lasts b ds written w.setup (map nodes w.sessions) here s.near.name (o.known.near_site p.0)) (site_lasts b ds written w.setup (map nodes w.sessions) here s.far.name (o.known.far_site p.1)) in
+        ap (λ b. may_send_at b s.near.phase) is ∙ ap is_up_phase (o.known.up l rank)
+
+    -- before that it sent routes alone
+    unsent_good : (n : Name) (s : Session) → Owns n s → is_peering s ≡ true → suc r ≤ 2 → Tells b ds written (suc r) s s.near.sent
+    unsent_good n s o is rank =
+        let p = peers_are s.near.role s.far.role is in
+        let sent = o.to_peer p.0 p.1 in (
+          (λ l k key says. absurd (none_yet r s.near.role s.far.role s.near.name s.far.name key is rank says)),
+          (
+            routes_some (suc r) (s.near.name, s.near.role) (s.far.name, s.far.role) s.near.sent sent,
+            routes_stood r (s.near.name, s.near.role) (s.far.name, s.far.role) s.near.sent rank sent,
+          ),
+        )
+
+    by_rank : (n : Name) (s : Session) → Owns n s → is_peering s ≡ true → may_send s ≡ false → Tells b ds written (suc r) s s.near.sent
+    by_rank n s o is off = elim (cases_lt (suc r) 3) as (λ _. Tells b ds written (suc r) s s.near.sent) [
+      | inl few ↦ unsent_good n s o is (omega (arith, few))
+      | inr many ↦ absurd (true≢false (sym (up_by_then n s o is (omega (arith, many))) ∙ off))
+    ]
+
+    sent_one : (n : Name) (s : Session) → Owns n s → (may_send s ≡ true → s.near.sent ≡ wanted w.setup (views_of n w.sessions) (view s)) → Tells b ds written (suc r) s (wanted w.setup (views_of n w.sessions) (view s)) → SentGood s
+    sent_one n s o tells good c = by (may_send s) refl
+      where
+        live : is_peering s ≡ false → may_send s ≡ true
+        live off = ap (λ b. may_send_at b s.near.phase) off ∙ ap not (live_receiver (is_peering s) s.near.phase s.far.phase c.0.inward.phases)
+
+        not_may : may_send s ≡ false → Tells b ds written (suc r) s s.near.sent
+        not_may off = elim (is_peering s) as (λ c. is_peering s ≡ c → Tells b ds written (suc r) s s.near.sent) [
+          | true ↦ λ is. by_rank n s o is off
+          | false ↦ λ is. absurd (true≢false (sym (live is) ∙ off))
         ] refl
 
-    sent_own : (n : Name) (vs : List View) (own : List Session) → Each (λ s. Joined size s × Mine b ds written r w.setup n s) own → TellsWanted w.setup vs own → Each (λ s. Tells b ds written (suc r) s (wanted w.setup vs (view s))) own → Each SentGood own
-    sent_own n vs [] m t g = tt
-    sent_own n vs (s ∷ own) m t g = (subst (Tells b ds written (suc r) s) (sym (t.0 (may_of n s m.0.0 m.0.1))) g.0, sent_own n vs own m.1 t.1 g.1)
+        by : (c : Bool) → may_send s ≡ c → Tells b ds written (suc r) s s.near.sent
+        by true may = subst (Tells b ds written (suc r) s) (sym (tells may)) good
+        by false off = not_may off
 
-    joined_own : (n : Name) → Each (Joined size) (sessions_of n w.sessions)
-    joined_own n = all_to_own (Joined size) n w.sessions (each_weaker (IsCalm size positive) (λ s. Joined size s × Joined size (turned s)) (λ s c. (c.0, joined_turned s c.0)) w.sessions calm)
+    sent_own : (n : Name) (own : List Session) → Each (Owns n) own → TellsWanted w.setup (views_of n w.sessions) own → Each (λ s. Tells b ds written (suc r) s (wanted w.setup (views_of n w.sessions) (view s))) own → Each SentGood own
+    sent_own n [] m t g = tt
+    sent_own n (s ∷ own) m t g = (sent_one n s m.0 t.0 g.0, sent_own n own m.1 t.1 g.1)
 
-    whole_own : (n : Name) → AreWhole (sessions_of n w.sessions)
-    whole_own n = each_weaker (Joined size) (λ s. s.is_down ≡ false) (λ s j. j.whole) (sessions_of n w.sessions) (joined_own n)
+    owns : (n : Name) → Each (Owns n) (sessions_of n w.sessions)
+    owns n =
+        each_weaker (λ s. Mine b ds written r w.setup n s × HasToldPeer s) (Owns n) (λ s q. record { known = q.0; to_peer = q.1 }) (sessions_of n w.sessions)
+        (each_and (Mine b ds written r w.setup n) HasToldPeer (sessions_of n w.sessions)
+        (mine b ds written r w.setup w.sessions here (holds_back b ds written size positive r w.sessions back_to) (some_back b ds written size positive r w.sessions back_to) (stood_back b ds written size positive r w.sessions back_to) n)
+        (all_to_own HasToldPeer n w.sessions routes))
 
     sent_good : Each (λ s. SentGood s × SentGood (turned s)) w.sessions
     sent_good =
         own_to_all SentGood w.sessions (twins w here)
-        (λ n. sent_own n (views_of n w.sessions) (sessions_of n w.sessions)
-        (each_and (Joined size) (Mine b ds written r w.setup n) (sessions_of n w.sessions) (joined_own n)
-        (mine b ds written r w.setup w.sessions here (holds_back b ds written r w.sessions back_to) (some_back b ds written r w.sessions back_to) (stood_back b ds written r w.sessions back_to) n))
-        (told n (whole_own n)) (wants_good b ds written r w.setup w.sessions here back_to n))
+        (λ n. sent_own n (sessions_of n w.sessions) (owns n) (told n) (wants_good b ds written size positive r w.setup w.sessions here back_to n))
 
-    begins_one : (s : Session) → ((IsCalm size positive s × IsBack b ds written r s) × (SentGood s × SentGood (turned s))) × Enough (dues w) s → During r (owed (dues w)) s
-    begins_one s h = (
-      h.0.0.0,
-      (
-        h.0.0.1,
-        record {
-          into = pends_starts (Good b ds written (suc r) (s.far.name, s.far.role) (s.near.name, s.near.role)) (Fine b ds written (suc r) (s.far.name, s.far.role) (s.near.name, s.near.role)) (owed (dues w) s.far.name s.near.name) s.near.held s.far.flight h.1.0
-              (subst (Good b ds written (suc r) (s.far.name, s.far.role) (s.near.name, s.near.role)) (sym (sent_is size s h.0.0.0.0)) h.0.1.1);
-          out = pends_starts (Good b ds written (suc r) (s.near.name, s.near.role) (s.far.name, s.far.role)) (Fine b ds written (suc r) (s.near.name, s.near.role) (s.far.name, s.far.role)) (owed (dues w) s.near.name s.far.name) s.far.held s.near.flight h.1.1
-              (subst (Good b ds written (suc r) (s.near.name, s.near.role) (s.far.name, s.far.role)) (sym (sent_is size (turned s) (joined_turned s h.0.0.0.0))) h.0.1.0);
-        },
-      ),
-    )
+    -- a new session has nothing, and its nodes do not last both
+    new_exchange : (s : Session) → IsNew s → IsBack b ds written size positive r s → Exchange b ds written (nodes s) (suc r) (owed (dues w) s.far.name s.near.name) (owed (dues w) s.near.name s.far.name) s
+    new_exchange s n f = record {
+      into = nothing (s.far.name, s.far.role) (s.near.name, s.near.role) (owed (dues w) s.far.name s.near.name) s.near.held s.far.flight n.near.held n.far.flight (λ l k. off k l);
+      out = nothing (s.near.name, s.near.role) (s.far.name, s.far.role) (owed (dues w) s.near.name s.far.name) s.far.held s.near.flight n.far.held n.near.flight (λ l k. off l k);
+    }
+      where
+        off : lasts b ds written s.near.name ≡ true → lasts b ds written s.far.name ≡ true → ⊥
+        off l k = true≢false (sym n.down ∙ (f.0 (both_last (lasts b ds written s.near.name) (lasts b ds written s.far.name) l k)).0.0.whole)
+
+        nothing : (from to : Name × Role) (i : ℕ) (held : Map) (flight : List Message) → held ≡ empty → flight ≡ [] → (lasts b ds written from.0 ≡ true → lasts b ds written to.0 ≡ true → ⊥)
+            → Pends (Good b ds written (suc r) from to) (Fine b ds written (suc r) from to) i held flight
+        nothing from to i held flight h g none =
+            subst (λ (m : Map). Pends (Good b ds written (suc r) from to) (Fine b ds written (suc r) from to) i m flight) (sym h)
+            (subst (λ (f : List Message). Pends (Good b ds written (suc r) from to) (Fine b ds written (suc r) from to) i empty f) (sym g)
+            (pends_starts (Good b ds written (suc r) from to) (Fine b ds written (suc r) from to) i empty [] (omega arith) (
+              (λ l k. absurd (none l k)),
+              (empty_values key_cmp (some_to cs (suc r) from to), empty_values key_cmp (stood cs b.topology.asn (suc r) from to)),
+            )))
+
+    calm_exchange : (s : Session) → IsCalm size positive s → SentGood s × SentGood (turned s) → Enough (dues w) s → Exchange b ds written (nodes s) (suc r) (owed (dues w) s.far.name s.near.name) (owed (dues w) s.near.name s.far.name) s
+    calm_exchange s c good enough = record {
+      into = pends_starts (Good b ds written (suc r) (s.far.name, s.far.role) (s.near.name, s.near.role)) (Fine b ds written (suc r) (s.far.name, s.far.role) (s.near.name, s.near.role)) (owed (dues w) s.far.name s.near.name) s.near.held s.far.flight enough.0
+          (subst (Good b ds written (suc r) (s.far.name, s.far.role) (s.near.name, s.near.role)) (sym (sent_is size s c.0)) (good.1 (calm_turned size positive s c)));
+      out = pends_starts (Good b ds written (suc r) (s.near.name, s.near.role) (s.far.name, s.far.role)) (Fine b ds written (suc r) (s.near.name, s.near.role) (s.far.name, s.far.role)) (owed (dues w) s.near.name s.far.name) s.far.held s.near.flight enough.1
+          (subst (Good b ds written (suc r) (s.near.name, s.near.role) (s.far.name, s.far.role)) (sym (sent_is size (turned s) (calm_turned size positive s c).0)) (good.0 c));
+    }
+
+    begins_one : (s : Session) → ((IsEasy size positive s × IsBack b ds written size positive r s) × (SentGood s × SentGood (turned s))) × Enough (dues w) s → During r (owed (dues w)) s
+    begins_one s h = (h.0.0.0, (h.0.0.1, by h.0.0.0))
+      where
+        by : IsEasy size positive s → Exchange b ds written (nodes s) (suc r) (owed (dues w) s.far.name s.near.name) (owed (dues w) s.near.name s.far.name) s
+        by (inl c) = calm_exchange s c h.0.1 h.1
+        by (inr n) = new_exchange s n h.0.0.1
 
     round_begins : Going r (owed (dues w)) w
     round_begins = (
       here,
-      each_weaker (λ s. ((IsCalm size positive s × IsBack b ds written r s) × (SentGood s × SentGood (turned s))) × Enough (dues w) s) (During r (owed (dues w))) begins_one w.sessions
-          (each_and (λ s. (IsCalm size positive s × IsBack b ds written r s) × (SentGood s × SentGood (turned s))) (Enough (dues w)) w.sessions
-          (each_and (λ s. IsCalm size positive s × IsBack b ds written r s) (λ s. SentGood s × SentGood (turned s)) w.sessions (each_and (IsCalm size positive) (IsBack b ds written r) w.sessions calm back_to) sent_good)
-          (enough_each w.sessions calm)),
+      each_weaker (λ s. ((IsEasy size positive s × IsBack b ds written size positive r s) × (SentGood s × SentGood (turned s))) × Enough (dues w) s) (During r (owed (dues w))) begins_one w.sessions
+          (each_and (λ s. (IsEasy size positive s × IsBack b ds written size positive r s) × (SentGood s × SentGood (turned s))) (Enough (dues w)) w.sessions
+          (each_and (λ s. IsEasy size positive s × IsBack b ds written size positive r s) (λ s. SentGood s × SentGood (turned s)) w.sessions (each_and (IsEasy size positive) (IsBack b ds written size positive r) w.sessions easy back_to) sent_good)
+          (enough_each w.sessions easy)),
     )
 
   -- ---- where it ends
-  kept_of : (r : ℕ) (from to : Name × Role) → lasts b ds written from.0 ≡ true → lasts b ds written to.0 ≡ true → (f : List Message) → AllByRecursion (Fine b ds written r from to) f → AreKept (Says b ds written r) from to f
-  kept_of r from to l k [] a = tt
-  kept_of r from to l k (x ∷ f) a = (a.0.0 l k, kept_of r from to l k f a.1)
+  taken_of : (r : ℕ) (from to : Name × Role) → lasts b ds written from.0 ≡ true → lasts b ds written to.0 ≡ true → (f : List Message) → AllByRecursion (Fine b ds written r from to) f → AreTaken (Says b ds written r) r from to f
+  taken_of r from to l k [] a = tt
+  taken_of r from to l k (x ∷ f) a = (a.0.0 l k, taken_of r from to l k f a.1)
 
   some_of : (r : ℕ) (from to : Name × Role) (f : List Message) → AllByRecursion (Fine b ds written r from to) f → FairMessages (some_to cs r) from to f
   some_of r from to [] a = tt
@@ -402,28 +491,22 @@ module _ (size : Name → Message → ℕ) (positive : ArePositive size) (b : Ch
   stood_of r from to [] a = tt
   stood_of r from to (x ∷ f) a = (a.0.1.1, stood_of r from to f a.1)
 
-  ends_one : (r : ℕ) (s : Session) → During r (owed []) s → IsBack b ds written (suc r) s
+  ends_one : (r : ℕ) (s : Session) → During r (owed []) s → IsBack b ds written size positive (suc r) s
   ends_one r s d =
       let n : Name × Role = (s.near.name, s.near.role) in
       let f : Name × Role = (s.far.name, s.far.role) in
       let into = pends_over (Good b ds written (suc r) f n) (Fine b ds written (suc r) f n) s.near.held s.far.flight d.1.1.into in
       let out = pends_over (Good b ds written (suc r) n f) (Fine b ds written (suc r) n f) s.far.held s.near.flight d.1.1.out in (
         (λ l.
-            let st = d.1.0.0 l in
-            let p = and_parts (lasts b ds written s.near.name) (lasts b ds written s.far.name) l in
-            record {
-              whole = st.whole;
-              near_up = st.near_up;
-              far_up = st.far_up;
-              near_notice = st.near_notice;
-              far_notice = st.far_notice;
-              near_breaks = st.near_breaks;
-              far_breaks = st.far_breaks;
-              near_held = into.0.0 p.1 p.0;
-              far_held = out.0.0 p.0 p.1;
-              near_flight = kept_of (suc r) n f p.0 p.1 s.near.flight out.1;
-              far_flight = kept_of (suc r) f n p.1 p.0 s.far.flight into.1;
-            }),
+            let p = and_parts (lasts b ds written s.near.name) (lasts b ds written s.far.name) l in (
+              (d.1.0.0 l).0,
+              record {
+                near_held = into.0.0 p.1 p.0;
+                far_held = out.0.0 p.0 p.1;
+                near_flight = taken_of (suc r) n f p.0 p.1 s.near.flight out.1;
+                far_flight = taken_of (suc r) f n p.1 p.0 s.far.flight into.1;
+              },
+            )),
         (
           record { near_held = into.0.1.0; far_held = out.0.1.0; near_flight = some_of (suc r) n f s.near.flight out.1; far_flight = some_of (suc r) f n s.far.flight into.1 },
           record { near_held = into.0.1.1; far_held = out.0.1.1; near_flight = stood_of (suc r) n f s.near.flight out.1; far_flight = stood_of (suc r) f n s.far.flight into.1 },
@@ -431,10 +514,10 @@ module _ (size : Name → Message → ℕ) (positive : ArePositive size) (b : Ch
       )
 
   abbrev pub AreBack : ℕ → MachineState → Type 0
-  AreBack r w = Here b ds written w.setup (map nodes w.sessions) × Each (IsBack b ds written r) w.sessions
+  AreBack r w = Here b ds written w.setup (map nodes w.sessions) × Each (IsBack b ds written size positive r) w.sessions
 
-  pub round_leads_on : (r : ℕ) (w : MachineState) → AreBack r w → AreCalm size positive w → AllHaveTold w → AreBack (suc r) (round w)
-  round_leads_on r w e calm told =
-      let g = dues_on r (dues w) w (round_begins r w e.0 e.1 calm told) in
-      subst (AreBack (suc r)) (sym (round_same size positive w calm))
-      (g.0, each_weaker (During r (owed [])) (IsBack b ds written (suc r)) (ends_one r) (after size w (map (as_event size positive) (dues w))).sessions g.1)
+  pub round_leads_on : (r : ℕ) (w : MachineState) → AreBack r w → AreEasy w → AllTell w → Each HaveToldPeers w.sessions → AreBack (suc r) (round w)
+  unfolding round
+  round_leads_on r w e easy told routes =
+      let g = dues_on r (dues w) w (no_notices w.sessions easy) (round_begins r w e.0 e.1 easy told routes) in
+      (g.0, each_weaker (During r (owed [])) (IsBack b ds written size positive (suc r)) (ends_one r) (deliver_all (dues w) w).sessions g.1)

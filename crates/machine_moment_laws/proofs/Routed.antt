@@ -7,6 +7,8 @@ use Rattle.std.proofs.Common.{ap, inl, inr, refl, subst, sym, ◌∙◌}
 use Rattle.ov_types.specs.Keys.{row_key_cmp}
 use Rattle.ov_types.specs.Prefix.{Block}
 use Rattle.ov_types.specs.declared.numbers.InstanceId.{InstanceId}
+use Rattle.ov_types.specs.declared.objects.LowKey.{LowKey}
+use Rattle.ov_types.specs.declared.objects.LowValue.{LowValue}
 use Rattle.ov_types.specs.declared.prefix.Addr.{Addr}
 use Rattle.ov_types.specs.declared.rows.Entry.{Entry as RouteEntry}
 use Rattle.ov_types.specs.declared.rows.TableRow.{TableRow}
@@ -14,14 +16,14 @@ use Rattle.route_targets.specs.Numbers.{distinguisher_of, target_of}
 use Rattle.run_ties.specs.ConfigCheck.Checked.{Checked}
 use Rattle.transform_forwarding_laws.specs.TransformModel.Compiled.{route_of}
 use Rattle.transform_forwarding_laws.specs.TransformModel.Tables.{Row}
-use Rattle.node_laws.specs.NodeModel.Agent.{needed_by}
+use Rattle.node_laws.specs.NodeModel.Agent.{acl_entry, attached, needed_by}
 use Rattle.node_laws.specs.NodeModel.Maps.{Map}
 use Rattle.node_laws.specs.NodeModel.Members.{Member}
 use Rattle.node_laws.specs.NodeModel.Paths.{Path}
 use Rattle.node_laws.specs.NodeModel.Reaching.{network}
 use Rattle.node_laws.specs.NodeModel.Wants.{slice}
 use Rattle.node_laws.proofs.NodeModel.Heard.{row_exact, row_total}
-use Rattle.node_laws.proofs.NodeModel.Members.{entry_in, from_entry, in_flat_map, in_map, member_get}
+use Rattle.node_laws.proofs.NodeModel.Members.{entry_in, from_entry, from_filter_map, in_filter_map, in_flat_map, in_map, member_get}
 use Rattle.node_laws.proofs.NodeModel.Orders.{prefix_exact, prefix_total}
 use Rattle.machine_model.specs.Setup.{low_in, opening}
 use Rattle.machine_laws.specs.Compiled.{Attachment, agent_rows, circuit_prefix, compiled_table, row_at, row_of, rows_in, table_rows}
@@ -30,10 +32,11 @@ use Rattle.machine_laws.proofs.OneRow.{has_one_row}
 use Rattle.machine_laws.proofs.TableRows.{HostRow, SubnetRow, aggregate_row, host_row, row_kind}
 use Rattle.machine_laws.proofs.Up.{held_from, held_in}
 use Rattle.machine_laws.proofs.Written.{sound_setup}
-use Rattle.machine_moment_laws.specs.Common.{common}
+use Rattle.machine_moment_laws.specs.Common.{HasAllRows, common, placed, rows_in_common}
 use Rattle.machine_moment_laws.proofs.Above.{attachment_above}
 use Rattle.machine_moment_laws.proofs.Parts.{IsAbove, common_is_part}
-use Rattle.machine_moment_laws.proofs.Routes.{compiled_is, hop_of, route_at}
+use Rattle.machine_moment_laws.proofs.Placed.{needed_too, slices_too}
+use Rattle.machine_moment_laws.proofs.Routes.{compiled_in, compiled_is, hop_of, route_at}
 use Rattle.machine_moment_laws.proofs.Sides.{same_circuit_at, same_hop_at, same_network, same_subnets, side_above, side_with}
 use Rattle.machine_moment_laws.proofs.Static.{imports_above}
 
@@ -78,6 +81,9 @@ module _ (b : Checked) (ds : List Checked) (written : (c : Checked) → Member c
   abbrev M : Map
   M = common (b ∷ ds)
 
+  abbrev W : Map
+  W = placed (b ∷ ds)
+
   -- an instance of the common part has one row for a prefix
   one_row : (i : InstanceId) (p : Block) (r s : TableRow) → Kind M i p r → Kind M i p s → r ≡ s
   one_row i p r s h k =
@@ -86,19 +92,34 @@ module _ (b : Checked) (ds : List Checked) (written : (c : Checked) → Member c
       (kind_in (low_in b) i p r (kind_above M (low_in b) above i p r h)) (kind_in (low_in b) i p s (kind_above M (low_in b) above i p s k))
 
   -- which is a route of each agent that needs the instance
-  pub routed : (a : Addr) (i : InstanceId) (p : Block) (r : TableRow) → Member i (needed_by (slice M a)) → Kind M i p r → Member (route_at i p (hop_of r)) (agent_rows M a).routes
+  pub routed : (a : Addr) (i : InstanceId) (p : Block) (r : TableRow) → Member i (needed_by (slice W a)) → Kind M i p r → Member (route_at i p (hop_of r)) (rows_in_common (b ∷ ds) a).routes
   routed a i p r needed kind =
       let f = entry_in prefix_total (row_at p r) (table_rows M i) (kind_in M i p r kind) in
       let same : f.0 ≡ r = one_row i p f.0 r (row_kind M i p f.0 (from_entry prefix_total prefix_exact p f.0 (table_rows M i) f.1)) kind in
       let held : get (compiled_table M i) p ≡ Some r = f.1 ∙ ap Some same in
       let row : Row = ((i, p), r) in
-      let all : List Row = flat_map (rows_in M) (needed_by (slice M a)) in
+      let all : List Row = flat_map (rows_in M) (needed_by (slice W a)) in
       let routes : List ((InstanceId × Block) × RouteEntry) = map route_of all in
       let in_all : Member row all =
-      in_flat_map (rows_in M) i row (needed_by (slice M a)) needed
+      in_flat_map (rows_in M) i row (needed_by (slice W a)) needed
       (in_map (λ (e : Block × TableRow). ((i, e.0), e.1)) (p, r) (entries (compiled_table M i)) (member_get prefix_total prefix_exact (compiled_table M i) p r held)) in
       let g = entry_in row_total (route_of row) routes (in_map route_of row all in_all) in
-      let there : Member (route_at i p g.0) (agent_rows M a).routes = member_get row_total row_exact (from_entries {R = row_key_cmp} routes) (i, p) g.0 g.1 in
-      let c = compiled_is M a i p g.0 there in
+      let there : Member (route_at i p g.0) (rows_in_common (b ∷ ds) a).routes = member_get row_total row_exact (from_entries {R = row_key_cmp} routes) (i, p) g.0 g.1 in
+      let c = compiled_is (b ∷ ds) a i p g.0 there in
       let one : g.0 ≡ hop_of r = sym c.hop_is ∙ ap hop_of (one_row i p c.row r c.kind kind) in
-      subst (λ (h : RouteEntry). Member (route_at i p h) (agent_rows M a).routes) one there
+      subst (λ (h : RouteEntry). Member (route_at i p h) (rows_in_common (b ∷ ds) a).routes) one there
+
+  -- so these have all that the common part compiles to
+  pub all_rows : (address : Addr) → HasAllRows (rows_in_common (b ∷ ds) address) (agent_rows M address)
+  all_rows address = record {
+    labels = λ l m.
+        let q = from_filter_map (λ (e : LowKey × LowValue). attached e.0 e.1) l (slice M address) m in
+        in_filter_map (λ (e : LowKey × LowValue). attached e.0 e.1) q.0 l (slice W address) (slices_too b ds address q.0.0 q.0.1 q.1) q.2;
+    acls = λ a m.
+        let q = from_filter_map (λ (e : LowKey × LowValue). acl_entry e.0 e.1) a (slice M address) m in
+        in_filter_map (λ (e : LowKey × LowValue). acl_entry e.0 e.1) q.0 a (slice W address) (slices_too b ds address q.0.0 q.0.1 q.1) q.2;
+    routes = λ r m.
+        let c = compiled_in M (needed_by (slice M address)) r.0.0 r.0.1 r.1 m in
+        subst (λ (h : RouteEntry). Member (route_at r.0.0 r.0.1 h) (rows_in_common (b ∷ ds) address).routes) c.hop_is
+        (routed address r.0.0 r.0.1 c.row (needed_too b ds address r.0.0 c.needed) c.kind);
+  }

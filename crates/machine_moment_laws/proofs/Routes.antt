@@ -33,12 +33,12 @@ use Rattle.machine_model.specs.Moments.{Each, nodes}
 use Rattle.machine_model.specs.Network.{agent_holdings, sessions_of, start}
 use Rattle.machine_model.specs.Session.{Agent, Controller, Role, Session}
 use Rattle.machine_model.specs.Setup.{Name, Setup, opening}
-use Rattle.machine_laws.specs.Compiled.{Attachment, agent_rows, compiled_table, row_of, rows_in, table_rows}
+use Rattle.machine_laws.specs.Compiled.{Attachment, compiled_table, row_of, rows_in, table_rows}
 use Rattle.machine_laws.specs.Goal.{role_of}
 use Rattle.machine_laws.specs.Headline.{IsWritten}
 use Rattle.machine_laws.proofs.TableRows.{HostRow, SubnetRow, row_kind}
 use Rattle.machine_laws.proofs.Views.{views}
-use Rattle.machine_moment_laws.specs.Common.{ChangesHands, HasCommonRows, WhatIsCommonStays, common, standing}
+use Rattle.machine_moment_laws.specs.Common.{ChangesHands, HasCommonRows, WhatIsCommonStays, common, placed, rows_in_common, standing}
 use Rattle.machine_moment_laws.specs.Windows.{AtMomentsOfWindows}
 use Rattle.machine_moment_laws.proofs.Above.{needed_above}
 use Rattle.machine_moment_laws.proofs.Here.{Here}
@@ -57,9 +57,9 @@ use Rattle.machine_moment_laws.proofs.Stood.{HoldStood, EntryStood, RowStood}
 abbrev pub hop_of : TableRow → RouteEntry
 hop_of r = record { next_hop = r.next_hop; label = r.label }
 
--- ---- a compiled route
-pub record IsCompiled (feed : Map) (address : Addr) (i : InstanceId) (prefix : Block) (hop : RouteEntry) : Type 0 where
-  pub needed : Member i (needed_by (slice feed address))
+-- ---- a compiled route of an instance that is needed
+pub record IsCompiledIn (feed : Map) (all_needed : List InstanceId) (i : InstanceId) (prefix : Block) (hop : RouteEntry) : Type 0 where
+  pub needed : Member i all_needed
   pub row : TableRow
   pub kind : HostRow feed i prefix row ⊎ SubnetRow feed i prefix row
   pub hop_is : hop_of row ≡ hop
@@ -67,21 +67,30 @@ pub record IsCompiled (feed : Map) (address : Addr) (i : InstanceId) (prefix : B
 abbrev pub route_at : InstanceId → Block → RouteEntry → (InstanceId × Block) × RouteEntry
 route_at i prefix hop = ((i, prefix), hop)
 
-pub compiled_is : (feed : Map) (address : Addr) (i : InstanceId) (prefix : Block) (hop : RouteEntry) → Member (route_at i prefix hop) (agent_rows feed address).routes → IsCompiled feed address i prefix hop
-compiled_is feed address i prefix hop m =
-    let all = flat_map (rows_in feed) (needed_by (slice feed address)) in
+abbrev pub routes_in : Map → List InstanceId → List ((InstanceId × Block) × RouteEntry)
+routes_in feed all_needed = entries (from_entries {R = row_key_cmp} (map route_of (flat_map (rows_in feed) all_needed)))
+
+pub compiled_in : (feed : Map) (all_needed : List InstanceId) (i : InstanceId) (prefix : Block) (hop : RouteEntry) → Member (route_at i prefix hop) (routes_in feed all_needed) → IsCompiledIn feed all_needed i prefix hop
+compiled_in feed all_needed i prefix hop m =
+    let all = flat_map (rows_in feed) all_needed in
     let q = from_map route_of (route_at i prefix hop) all (from_entry row_total row_exact (i, prefix) hop (map route_of all) (get_member row_total (from_entries {R = row_key_cmp} (map route_of all)) (i, prefix) hop m)) in
-    let j = from_flat_map (rows_in feed) q.0 (needed_by (slice feed address)) q.1 in
+    let j = from_flat_map (rows_in feed) q.0 all_needed q.1 in
     let e = from_map (λ (e : Block × TableRow). ((j.0, e.0), e.1)) q.0 (entries (compiled_table feed j.0)) j.2 in
     let there : Member (e.0.0, e.0.1) (table_rows feed j.0) = from_entry prefix_total prefix_exact e.0.0 e.0.1 (table_rows feed j.0) (get_member prefix_total (compiled_table feed j.0) e.0.0 e.0.1 e.1) in
     let at : route_of ((j.0, e.0.0), e.0.1) ≡ route_at i prefix hop = ap route_of e.2 ∙ q.2 in
     let kind = row_kind feed j.0 e.0.0 e.0.1 there in
     record {
-      needed = subst (λ (i : InstanceId). Member i (needed_by (slice feed address))) (ap (λ (r : (InstanceId × Block) × RouteEntry). r.0.0) at) j.1;
+      needed = subst (λ (i : InstanceId). Member i all_needed) (ap (λ (r : (InstanceId × Block) × RouteEntry). r.0.0) at) j.1;
       row = e.0.1;
       kind = subst (λ (r : (InstanceId × Block) × RouteEntry). HostRow feed r.0.0 r.0.1 e.0.1 ⊎ SubnetRow feed r.0.0 r.0.1 e.0.1) at kind;
       hop_is = ap (λ (r : (InstanceId × Block) × RouteEntry). r.1) at;
     }
+
+abbrev pub IsCompiled : List Checked → Addr → InstanceId → Block → RouteEntry → Type 0
+IsCompiled cs address i prefix hop = IsCompiledIn (common cs) (needed_by (slice (placed cs) address)) i prefix hop
+
+pub compiled_is : (cs : List Checked) (address : Addr) (i : InstanceId) (prefix : Block) (hop : RouteEntry) → Member (route_at i prefix hop) (rows_in_common cs address).routes → IsCompiled cs address i prefix hop
+compiled_is cs address i prefix hop m = compiled_in (common cs) (needed_by (slice (placed cs) address)) i prefix hop m
 
 module _ (b : Checked) (ds : List Checked) (written : (c : Checked) → Member c (b ∷ ds) → IsWritten (opening c)) where
   abbrev cs : List Checked
@@ -90,15 +99,18 @@ module _ (b : Checked) (ds : List Checked) (written : (c : Checked) → Member c
   abbrev M : Map
   M = common cs
 
+  abbrev W : Map
+  W = placed cs
+
   module _ (r : ℕ) (x : Setup) (ss : List Session) (here : Here b ds written x (map nodes ss)) (lasting_stays : Each (HoldsTo b ds written r) ss) (some : Each (AreSomeTo cs r) ss) (st : Each (HoldStood cs b.topology.asn r) ss) (n : Node) (stays : Member n (standing cs)) where
     abbrev held : agent.Holdings
     held = agent_holdings x n.name (views (sessions_of n.name ss))
 
     -- a route that is said, and that leads nowhere else, is there
-    pub route_there : 5 ≤ r → (i : InstanceId) (prefix : Block) (hop : RouteEntry) → Member i (needed_by (slice M n.address)) → SaysBy b ds written r Controller Agent (in_use b ds written r x ss here lasting_stays some st n stays).session.far.name n.name (Row i prefix)
+    pub route_there : 5 ≤ r → (i : InstanceId) (prefix : Block) (hop : RouteEntry) → Member i (needed_by (slice W n.address)) → SaysBy b ds written r Controller Agent n.name n.name (Row i prefix)
         → ((h : RouteEntry) → RowStood cs i prefix h.next_hop h.label → h ≡ hop) → Member (route_at i prefix hop) (agent.routes held)
     route_there rank i prefix hop needed says leads =
-        let u = in_use b ds written r x ss here lasting_stays some st n stays in
+        let u = in_use b ds written r x ss here lasting_stays some st n stays (two r rank) in
         let s = u.session in
         let near_is : s.near.role ≡ Agent = u.to.near_role ∙ ap (role_of x) u.to.name ∙ is_agent b ds written r x ss here lasting_stays some st n stays in
         let said : Says b ds written r (s.far.name, s.far.role) (s.near.name, s.near.role) (Row i prefix) =
@@ -110,7 +122,7 @@ module _ (b : Checked) (ds : List Checked) (written : (c : Checked) → Member c
         let from : agent.route_from held i prefix ≡ Some hop =
         ap (λ (h : agent.Holdings). agent.route_from h i prefix) u.holdings_are
         ∙ ap (λ (o : Option Value). first_some (as_hop o) (agent.route_from u.rest i prefix)) e in
-        let there = needed_above (slice M n.address) (slice_in_use held) (slice_had b ds written r x ss here lasting_stays some st n stays (two r rank)) i needed in
+        let there = needed_above (slice W n.address) (slice_in_use held) (slice_had b ds written r x ss here lasting_stays some st n stays (two r rank)) i needed in
         let is_needed : agent.is_needed held i ≡ true = any_in (λ (n : InstanceId). n.0 == i.0) i (needed_by (slice_in_use held)) there (eq-eqb i.0 i.0 refl) in
         (route_is held i prefix hop).1 (is_needed, from)
       where
@@ -127,10 +139,10 @@ module _ (b : Checked) (ds : List Checked) (written : (c : Checked) → Member c
     pub host_hop : (a : Attachment) (row : TableRow) (hop h : RouteEntry) → row_of a ≡ row → hop_of row ≡ hop → LeadsTo b ds written a h.next_hop h.label → h ≡ hop
     host_hop a row hop h is e q = (λ i. record { next_hop = q.hop_is i; label = q.label_is i }) ∙ ap hop_of is ∙ e
 
-    pub network_route_there : 5 ≤ r → (i : InstanceId) (prefix : Block) (hop : RouteEntry) → is_hop i ≡ false → Member (route_at i prefix hop) (agent_rows M n.address).routes → (ChangesHands cs i prefix → ⊥) → Member (route_at i prefix hop) (agent.routes held)
-    network_route_there rank i prefix hop net m keeps = by (compiled_is M n.address i prefix hop m)
+    pub network_route_there : 5 ≤ r → (i : InstanceId) (prefix : Block) (hop : RouteEntry) → is_hop i ≡ false → Member (route_at i prefix hop) (rows_in_common cs n.address).routes → (ChangesHands cs i prefix → ⊥) → Member (route_at i prefix hop) (agent.routes held)
+    network_route_there rank i prefix hop net m keeps = by (compiled_is cs n.address i prefix hop m)
       where
-        by : IsCompiled M n.address i prefix hop → Member (route_at i prefix hop) (agent.routes held)
+        by : IsCompiled cs n.address i prefix hop → Member (route_at i prefix hop) (agent.routes held)
         by c = elim c.kind as (λ _. Member (route_at i prefix hop) (agent.routes held)) [
           | inl q ↦
               route_there rank i prefix hop c.needed
@@ -141,11 +153,11 @@ module _ (b : Checked) (ds : List Checked) (written : (c : Checked) → Member c
         ]
 
     -- ---- all routes
-    pub all_there : 5 ≤ r → (i : InstanceId) (prefix : Block) (hop : RouteEntry) → ((row : TableRow) (t : SubnetRow M i prefix row) → 5 + suc t.d ≤ r) → Member (route_at i prefix hop) (agent_rows M n.address).routes → (ChangesHands cs i prefix → ⊥) → Member (route_at i prefix hop) (agent.routes held)
+    pub all_there : 5 ≤ r → (i : InstanceId) (prefix : Block) (hop : RouteEntry) → ((row : TableRow) (t : SubnetRow M i prefix row) → 5 + suc t.d ≤ r) → Member (route_at i prefix hop) (rows_in_common cs n.address).routes → (ChangesHands cs i prefix → ⊥) → Member (route_at i prefix hop) (agent.routes held)
     all_there five i prefix hop last m keeps = by_kind (is_hop i) refl
       where
-        c : IsCompiled M n.address i prefix hop
-        c = compiled_is M n.address i prefix hop m
+        c : IsCompiled cs n.address i prefix hop
+        c = compiled_is cs n.address i prefix hop m
 
         by_kind : (a : Bool) → is_hop i ≡ a → Member (route_at i prefix hop) (agent.routes held)
         by_kind false net = network_route_there five i prefix hop net m keeps
@@ -161,12 +173,12 @@ module _ (b : Checked) (ds : List Checked) (written : (c : Checked) → Member c
         ]
 
     -- so it has all rows
-    pub rows_there : (most : ℕ) → ((s : Side) → Member s (sides M) → s.chain.services ≤ most) → most + 5 ≤ r → HasCommonRows M (ChangesHands cs) n.address (agent.rows held)
+    pub rows_there : (most : ℕ) → ((s : Side) → Member s (sides M) → s.chain.services ≤ most) → most + 5 ≤ r → HasCommonRows cs n.address (agent.rows held)
     rows_there most bound rank =
         let had = slice_had b ds written r x ss here lasting_stays some st n stays (two most r rank) in
         record {
-          labels = labels_above (slice M n.address) (slice_in_use held) had;
-          acls = lists_above (slice M n.address) (slice_in_use held) had;
+          labels = labels_above (slice W n.address) (slice_in_use held) had;
+          acls = lists_above (slice W n.address) (slice_in_use held) had;
           routes = λ r' m keeps. all_there (five most r rank) r'.0.0 r'.0.1 r'.1 (λ row t. last t.d t.side.chain.services r t.within (bound t.side t.of_use) rank) m keeps;
         }
       where

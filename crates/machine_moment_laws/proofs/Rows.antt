@@ -13,13 +13,17 @@ use Rattle.ov_types.specs.declared.rows.Attached.{Attached}
 use Rattle.node_laws.specs.NodeModel.Agent.{acl_entry, attached}
 use Rattle.node_laws.specs.NodeModel.Members.{Member}
 use Rattle.node_laws.proofs.NodeModel.Members.{from_filter_map, in_filter_map, none_some}
-use Rattle.machine_moment_laws.proofs.Above.{ListAbove}
-use Rattle.machine_moment_laws.proofs.Parts.{IsPartOf}
+use Rattle.machine_moment_laws.proofs.Above.{ListPlaced}
+use Rattle.machine_moment_laws.proofs.Placed.{IsPlacedAs}
 
 -- ---- labels and access lists of a list that is had
-label_same : (k : LowKey) (w v : LowValue) (l : LabelNo × Attached) → attached k w ≡ Some l → IsPartOf w v → w ≡ v
-label_same (key.Attach n) (low.AttachPort p i x d) v l e h = h
-label_same (key.Attach n) (low.AttachCircuit c s d) v l e h = h
+label_same : (k : LowKey) (w v : LowValue) (l : LabelNo × Attached) → attached k w ≡ Some l → IsPlacedAs w v → attached k v ≡ Some l
+label_same (key.Attach n) (low.AttachPort p i x d) (low.AttachPort q j y o) l e h = (λ t. attached (key.Attach n) (low.AttachPort (sym h.0 t) (sym h.1.0 t) y o)) ∙ e
+label_same (key.Attach n) (low.AttachPort p i x d) (low.AttachCircuit c s o) l e h = absurd h
+label_same (key.Attach n) (low.AttachPort p i x d) (low.Instance is) l e h = absurd h
+label_same (key.Attach n) (low.AttachPort p i x d) (low.Acl s r) l e h = absurd h
+label_same (key.Attach n) (low.AttachPort p i x d) (low.ChainUse a b c f g) l e h = absurd h
+label_same (key.Attach n) (low.AttachCircuit c s d) v l e h = ap (attached (key.Attach n)) (sym h) ∙ e
 label_same (key.Attach n) (low.Instance is) v l e h = absurd (none_some l e)
 label_same (key.Attach n) (low.Acl s r) v l e h = absurd (none_some l e)
 label_same (key.Attach n) (low.ChainUse x y c d f) v l e h = absurd (none_some l e)
@@ -36,12 +40,12 @@ list_key (key.Attach n) w o v e = absurd (none_some o e)
 list_key (key.Instance n) w o v e = absurd (none_some o e)
 list_key (key.ChainUse u) w o v e = absurd (none_some o e)
 
-module _ (xs ys : List (LowKey × LowValue)) (above : ListAbove xs ys) where
+module _ (xs ys : List (LowKey × LowValue)) (above : ListPlaced xs ys) where
   pub labels_above : (l : LabelNo × Attached) → Member l (filter_map (λ e. attached e.0 e.1) xs) → Member l (filter_map (λ e. attached e.0 e.1) ys)
   labels_above l m =
       let q = from_filter_map (λ (e : LowKey × LowValue). attached e.0 e.1) l xs m in
       let v = above q.0.0 q.0.1 q.1 in
-      in_filter_map (λ (e : LowKey × LowValue). attached e.0 e.1) (named q.0.0 v.0) l ys v.1 (ap (attached q.0.0) (sym (label_same q.0.0 q.0.1 v.0 l q.2 v.2)) ∙ q.2)
+      in_filter_map (λ (e : LowKey × LowValue). attached e.0 e.1) (named q.0.0 v.0) l ys v.1 (label_same q.0.0 q.0.1 v.0 l q.2 v.2)
 
   pub lists_above : (k : LowKey) (w : LowValue) → Member (k, w) (filter_map (λ e. acl_entry e.0 e.1) xs) → (v : LowValue) × Member (k, v) (filter_map (λ e. acl_entry e.0 e.1) ys)
   lists_above k w m =

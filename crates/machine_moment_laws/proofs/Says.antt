@@ -39,7 +39,7 @@ use Rattle.machine_model.proofs.Twins.{all_to_own, each_and, each_weaker}
 use Rattle.machine_laws.specs.Goal.{HasRoles, IsLaid, Party, role_in, role_of}
 use Rattle.machine_laws.specs.Headline.{IsWritten}
 use Rattle.machine_laws.proofs.Views.{far, own_named, views}
-use Rattle.machine_moment_laws.specs.Common.{common, standing}
+use Rattle.machine_moment_laws.specs.Common.{common, placed, standing}
 use Rattle.machine_moment_laws.proofs.Here.{Here, here_laid, here_stands, lasts}
 use Rattle.machine_moment_laws.proofs.OfSome.{AreSomeTo, role_is, some_to}
 use Rattle.machine_moment_laws.proofs.Stays.{HasKeys, StaysWhereLasting, is_lasting}
@@ -85,9 +85,12 @@ module _ (b : Checked) (ds : List Checked) (written : (c : Checked) → Member c
   abbrev M : Map
   M = common cs
 
+  abbrev W : Map
+  W = placed cs
+
   -- ---- what is said, from which rank on
   abbrev pub IsInSlice : Name → LowKey → Type 0
-  IsInSlice name k = (n : Node) × Member n (standing cs) × (n.name ≡ name) × (w : LowValue) × Member (k, w) (slice M n.address)
+  IsInSlice name k = (n : Node) × Member n (standing cs) × (n.name ≡ name) × (w : LowValue) × Member (k, w) (slice W n.address)
 
   -- an attachment of the common part, whose node lists the control node
   pub record IsServed (from : Name) (a : Attachment) : Type 0 where
@@ -112,7 +115,7 @@ module _ (b : Checked) (ds : List Checked) (written : (c : Checked) → Member c
     pub node : Node
     pub stays : Member node (standing cs)
     pub name_is : node.name ≡ name
-    pub needed : Member i (needed_by (slice M node.address))
+    pub needed : Member i (needed_by (slice W node.address))
 
   pub record HostSaid (r : ℕ) (from : Name) (k : VpnKey) : Type 0 where
     pub rank : 4 ≤ r
@@ -150,7 +153,7 @@ module _ (b : Checked) (ds : List Checked) (written : (c : Checked) → Member c
     pub rank : 5 + suc led.d ≤ r
 
   abbrev pub SaysBy : ℕ → Role → Role → Name → Name → Key → Type 0
-  SaysBy r Configuration q from to (Low k) = (1 ≤ r) × (is_some (object M k) ≡ true)
+  SaysBy r Configuration q from to (Low k) = (1 ≤ r) × (is_some (object W k) ≡ true)
   SaysBy r Controller Agent from to (Low k) = (2 ≤ r) × IsInSlice to k
   SaysBy r Controller Agent from to (Row i prefix) = RowSaid r to i prefix ⊎ RowLed r to i prefix
   SaysBy r Agent q from to (Publish i prefix) = PublishSaid r from i prefix
@@ -184,10 +187,10 @@ module _ (b : Checked) (ds : List Checked) (written : (c : Checked) → Member c
   abbrev pub StaysTo : ℕ → Session → Type 0
   StaysTo r s = StaysWhereLasting (Says r) (lasts b ds written) s
 
-  -- what both ends hold, where both nodes last
+  -- what both ends hold, where both nodes last; and they are up from rank 2 on
   pub record HoldsAt (r : ℕ) (s : Session) : Type 0 where
-    pub near_up : s.near.phase ≡ Up
-    pub far_up : s.far.phase ≡ Up
+    pub near_up : 2 ≤ r → s.near.phase ≡ Up
+    pub far_up : 2 ≤ r → s.far.phase ≡ Up
     pub near_held : HasKeys (Says r) (s.far.name, s.far.role) (s.near.name, s.near.role) s.near.held
     pub far_held : HasKeys (Says r) (s.near.name, s.near.role) (s.far.name, s.far.role) s.far.held
 
@@ -195,7 +198,7 @@ module _ (b : Checked) (ds : List Checked) (written : (c : Checked) → Member c
   HoldsTo r s = lasting s ≡ true → HoldsAt r s
 
   pub holds_of : (r : ℕ) (s : Session) → StaysTo r s → HoldsTo r s
-  holds_of r s f l = let g = f l in record { near_up = g.near_up; far_up = g.far_up; near_held = g.near_held; far_held = g.far_held }
+  holds_of r s f l = let g = f l in record { near_up = λ _. g.near_up; far_up = λ _. g.far_up; near_held = g.near_held; far_held = g.far_held }
 
   -- ---- a session of a node, seen from it
   record Sided (r : ℕ) (x : Setup) (s : Session) : Type 0 where
@@ -204,7 +207,7 @@ module _ (b : Checked) (ds : List Checked) (written : (c : Checked) → Member c
     near_site : s.near.role ≡ Controller → Member s.near.name (controller_names x.topology)
     far_site : s.far.role ≡ Controller → Member s.far.name (controller_names x.topology)
     held : lasting s ≡ true → HasKeys (Says r) (s.far.name, s.far.role) (s.near.name, s.near.role) s.near.held
-    up : lasting s ≡ true → s.near.phase ≡ Up
+    up : lasting s ≡ true → 2 ≤ r → s.near.phase ≡ Up
     some : FairMap (some_to cs r) (s.far.name, s.far.role) (s.near.name, s.near.role) s.near.held
     told : FairMap (stood cs b.topology.asn r) (s.far.name, s.far.role) (s.near.name, s.near.role) s.near.held
 
@@ -215,7 +218,7 @@ module _ (b : Checked) (ds : List Checked) (written : (c : Checked) → Member c
     pub near_site : s.near.role ≡ Controller → Member s.near.name (controller_names x.topology)
     pub far_site : s.far.role ≡ Controller → Member s.far.name (controller_names x.topology)
     pub held : lasting s ≡ true → HasKeys (Says r) (s.far.name, s.far.role) (s.near.name, s.near.role) s.near.held
-    pub up : lasting s ≡ true → s.near.phase ≡ Up
+    pub up : lasting s ≡ true → 2 ≤ r → s.near.phase ≡ Up
     pub some : FairMap (some_to cs r) (s.far.name, s.far.role) (s.near.name, s.near.role) s.near.held
     pub told : FairMap (stood cs b.topology.asn r) (s.far.name, s.far.role) (s.near.name, s.near.role) s.near.held
 

@@ -14,7 +14,6 @@ use Rattle.ov_types.specs.declared.numbers.Label.{Label as LabelNo}
 use Rattle.ov_types.specs.declared.objects.LowKey.{LowKey}
 use Rattle.ov_types.specs.declared.objects.LowKey.TheVariants as key
 use Rattle.ov_types.specs.declared.objects.LowValue.{LowValue}
-use Rattle.ov_types.specs.declared.objects.LowValue.TheVariants as low
 use Rattle.ov_types.specs.declared.packet.Packet.{Packet}
 use Rattle.ov_types.specs.declared.prefix.Addr.{Addr}
 use Rattle.ov_types.specs.declared.rows.Attached.{Attached}
@@ -51,14 +50,15 @@ use Rattle.machine_laws.proofs.Found.{attached_in}
 use Rattle.machine_laws.proofs.Placing.{agent_named}
 use Rattle.machine_laws.proofs.Views.{views}
 use Rattle.machine_moment_laws.specs.Arriving.{StartsWhereCommon, agent_at_node}
-use Rattle.machine_moment_laws.specs.Common.{common, rows_at, standing}
+use Rattle.machine_moment_laws.specs.Common.{placed, rows_at, standing}
 use Rattle.machine_moment_laws.specs.Windows.{AtMomentsOfWindows}
+use Rattle.machine_moment_laws.proofs.Above.{at_placed}
 use Rattle.machine_moment_laws.proofs.Arriving.{LabelsStay, key_of, labelled}
 use Rattle.machine_moment_laws.proofs.Here.{Here, here_laid, here_sound, stands_among}
 use Rattle.machine_moment_laws.proofs.CommonLasting.{holds_kept, some_kept, stood_kept}
 use Rattle.machine_moment_laws.proofs.CommonMoments.{all_are_written, every_moment, first_one, others}
 use Rattle.machine_moment_laws.proofs.OfSome.{AllOfSome, AreSomeTo, all_some, none_of_some}
-use Rattle.machine_moment_laws.proofs.Parts.{IsPartOf, common_is_part}
+use Rattle.machine_moment_laws.proofs.Placed.{placed_in}
 use Rattle.machine_moment_laws.proofs.Routes.{what_is_common_stays}
 use Rattle.machine_moment_laws.proofs.Says.{HoldsTo, Mine, mine}
 use Rattle.machine_moment_laws.proofs.Static.{stood_name}
@@ -102,8 +102,8 @@ module _ (b : Checked) (ds : List Checked) (written : (c : Checked) → Member c
   abbrev cs : List Checked
   cs = b ∷ ds
 
-  abbrev M : Map
-  M = common cs
+  abbrev W : Map
+  W = placed cs
 
   -- each object is that of a configuration, and what is attached is so where the node of this name stood
   abbrev IsTold : Name → Map → Type 0
@@ -139,33 +139,17 @@ module _ (b : Checked) (ds : List Checked) (written : (c : Checked) → Member c
           (all_heard (IsTold m.name) (none_told m.name) own m.controllers
           (λ c i. each_weaker (Mine b ds written r x m.name) (λ s. s.far.name ≡ c → IsTold m.name s.near.held) (λ s q. told_by c (listed c i) s q) own (mine b ds written r x ss here lasting_stays some st m.name)))
 
-      -- an object that the common part attaches at a node that stands is in use at that alone
-      at_home : (n : Node) → Member n (standing cs) → (l : ℕ) (w v : LowValue) → Member (key.Attach l, w) (slice M n.address) → ((y : LowValue) → IsPartOf w y → w ≡ y) → Member (key.Attach l, v) (slice_in_use (agent_holdings x m.name (views own))) → m.name ≡ n.name
-      at_home n stays l w v common_one whole m_has =
+      -- an object that is attached at a node that stands in all configurations is in use at that alone
+      at_home : (n : Node) → Member n (standing cs) → (l : ℕ) (w v : LowValue) → Member (key.Attach l, w) (slice W n.address) → Member (key.Attach l, v) (slice_in_use (agent_holdings x m.name (views own))) → m.name ≡ n.name
+      at_home n stays l w v placed_one m_has =
           let q = from_slice (IsTold m.name) (none_told m.name) (agent_holdings x m.name (views own)) held_told (key.Attach l) v m_has in
           let o = q.1.0 (Low (key.Attach l)) (Object v) q.2 in
           let c = o.0 in
-          let k = (slice_is M n.address (key.Attach l) w).0 common_one in
-          let part = common_is_part b ds c o.1 (key.Attach l) w (ap as_object (object_of M (key.Attach l) w k.0)) in
+          let k = (slice_is W n.address (key.Attach l) w).0 placed_one in
+          let part = placed_in b ds c o.1 (key.Attach l) w (ap as_object (object_of W (key.Attach l) w k.0)) in
           let in_c : object (low_in c) (key.Attach l) ≡ Some v = ap as_object (object_of (low_in c) (key.Attach l) v (subst (λ (os : List (LowKey × LowValue)). Member (key.Attach l, v) os) (sym (objects-low (opening c))) o.2)) in
-          let same : w ≡ v = whole part.0 part.2 ∙ same_Some part.0 v (sym part.1 ∙ in_c) in
-          stood_name b ds written n stays m.name (q.1.1 l v n.address q.2 (subst (IsAttachedAt n.address) same k.1))
-
-  part_of_port : (k : LowKey) (w : LowValue) (l : LabelNo) (what : Attached) → attached k w ≡ Some (l, what) → (y : LowValue) → IsPartOf w y → w ≡ y
-  part_of_port k (low.AttachPort p i a d) l what e y h = h
-  part_of_port k (low.AttachCircuit c s d) l what e y h = h
-  part_of_port (key.Attach n) (low.Instance is) l what e y h = absurd (none_some (l, what) e)
-  part_of_port (key.Attach n) (low.Acl s q) l what e y h = absurd (none_some (l, what) e)
-  part_of_port (key.Attach n) (low.ChainUse a c f g t) l what e y h = absurd (none_some (l, what) e)
-  part_of_port (key.Instance n) (low.Instance is) l what e y h = absurd (none_some (l, what) e)
-  part_of_port (key.Instance n) (low.Acl s q) l what e y h = absurd (none_some (l, what) e)
-  part_of_port (key.Instance n) (low.ChainUse a c f g t) l what e y h = absurd (none_some (l, what) e)
-  part_of_port (key.Acl n o) (low.Instance is) l what e y h = absurd (none_some (l, what) e)
-  part_of_port (key.Acl n o) (low.Acl s q) l what e y h = absurd (none_some (l, what) e)
-  part_of_port (key.Acl n o) (low.ChainUse a c f g t) l what e y h = absurd (none_some (l, what) e)
-  part_of_port (key.ChainUse n) (low.Instance is) l what e y h = absurd (none_some (l, what) e)
-  part_of_port (key.ChainUse n) (low.Acl s q) l what e y h = absurd (none_some (l, what) e)
-  part_of_port (key.ChainUse n) (low.ChainUse a c f g t) l what e y h = absurd (none_some (l, what) e)
+          let same : part.0 ≡ v = same_Some part.0 v (sym part.1 ∙ in_c) in
+          stood_name b ds written n stays m.name (q.1.1 l v n.address q.2 (subst (IsAttachedAt n.address) same (at_placed n.address w part.0 k.1 part.2)))
 
 -- what has a port has something under its label
 under_port : (o : Option Attached) (f : Forwarder) (s : Source) → option_map (λ (i : InstanceId). (f, i)) (as_port o) ≡ Some s → (what : Attached) × (o ≡ Some what)
@@ -181,9 +165,9 @@ module _ (b : Checked) (ds : List Checked) (written : (c : Checked) → Member c
       let n_there : Member n nodes_now = stands_among b ds written n h.stays (checked w.setup) here.among in
       let mine_label = stay n h.stays (label, Port p.source from) h.label in
       let has : source_at p (f n) ≡ Some (f n, from) = ap (λ (o : Option Attached). option_map (λ (i : InstanceId). (f n, i)) (as_port o)) (labelled (held_by_agent w n.name) label (Port p.source from) mine_label) in
-      let ours = from_filter_map (λ (e : LowKey × LowValue). attached e.0 e.1) (label, Port p.source from) (slice (common (b ∷ ds)) n.address) h.label in
+      let ours = from_filter_map (λ (e : LowKey × LowValue). attached e.0 e.1) (label, Port p.source from) (slice (placed (b ∷ ds)) n.address) h.label in
       let our_key : ours.0.0 ≡ key.Attach label.0 = key_of ours.0.0 ours.0.1 (label, Port p.source from) ours.2 in
-      let our_one : Member (key.Attach label.0, ours.0.1) (slice (common (b ∷ ds)) n.address) = subst (λ (k : LowKey). Member (k, ours.0.1) (slice (common (b ∷ ds)) n.address)) our_key ours.1 in
+      let our_one : Member (key.Attach label.0, ours.0.1) (slice (placed (b ∷ ds)) n.address) = subst (λ (k : LowKey). Member (k, ours.0.1) (slice (placed (b ∷ ds)) n.address)) our_key ours.1 in
       first_is p (forwarders w) (f n, from) (in_map f n nodes_now n_there) has
       (λ g t in_g is.
       let m = from_map f g nodes_now in_g in
@@ -192,7 +176,7 @@ module _ (b : Checked) (ds : List Checked) (written : (c : Checked) → Member c
       let theirs = from_filter_map (λ (e : LowKey × LowValue). attached e.0 e.1) (label, what.0) (slice_in_use (held_by_agent w m.0.name)) (attached_in (rows_at w m.0) label what.0 what.1) in
       let their_key : theirs.0.0 ≡ key.Attach label.0 = key_of theirs.0.0 theirs.0.1 (label, what.0) theirs.2 in
       let names : m.0.name ≡ n.name =
-      at_home b ds written r w.setup w.sessions here two to some st m.0 m.1 n h.stays label.0 ours.0.1 theirs.0.1 our_one (part_of_port b ds written ours.0.0 ours.0.1 label (Port p.source from) ours.2)
+      at_home b ds written r w.setup w.sessions here two to some st m.0 m.1 n h.stays label.0 ours.0.1 theirs.0.1 our_one
       (subst (λ (k : LowKey). Member (k, theirs.0.1) (slice_in_use (held_by_agent w m.0.name))) their_key theirs.1) in
       let one : m.0 ≡ n =
       same_Some m.0 n (sym (found b ds written r w.setup w.sessions here two to some st m.0 m.1) ∙ ap (node_named w.setup.topology) names ∙ found b ds written r w.setup w.sessions here two to some st n n_there) in

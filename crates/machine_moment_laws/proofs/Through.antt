@@ -39,8 +39,9 @@ use Rattle.machine_laws.proofs.Objects.{ascending_in}
 use Rattle.hitless_laws.specs.Ways.{IsStop, Offers, Track, visited}
 use Rattle.hitless_laws.specs.Ways.Way.{through}
 use Rattle.machine_moment_laws.specs.Arriving.{IsCommonWay}
-use Rattle.machine_moment_laws.specs.Common.{common, standing, stands_at}
+use Rattle.machine_moment_laws.specs.Common.{common, placed, standing, stands_at}
 use Rattle.machine_moment_laws.proofs.Parts.{object_is}
+use Rattle.machine_moment_laws.proofs.Placed.{in_placed}
 use Rattle.machine_moment_laws.proofs.Sides.{ordered}
 use Rattle.machine_moment_laws.proofs.Going.{StopAt, backwards_down, circuit_needed, forwards_down, goes_down}
 use Rattle.machine_moment_laws.proofs.Made.{CircuitInAll, UseInAll, circuit_there, in_standing, left_there, lefts_in_all, right_there, rights_in_all, stands_where, use_common, use_value}
@@ -201,6 +202,9 @@ module _ (b : Checked) (ds : List Checked) (written : (c : Checked) → Member c
   abbrev M' : Map
   M' = common cs'
 
+  abbrev W' : Map
+  W' = placed cs'
+
   abbrev Arriving : Track → Type 0
   Arriving track = object M' (key.Attach (port_label_of number).0) ≡ Some (low.AttachPort number track.to p.destination arrival.address)
 
@@ -235,8 +239,8 @@ module _ (b : Checked) (ds : List Checked) (written : (c : Checked) → Member c
           stands = stop_stands b ds written p number use_no false track offered stop (among b ds written p number use_no false track offered j stop at);
           circuit = subst AtLeft (sym place) (left_there_at b ds written p number use_no false track offered j stop within at);
           behind = other_of_left (16384 + 16 * use_no + (k - suc d + 1 - 1)) (left_circuit_of use_no (k - suc d + 1)) refl ∙ next use_no k d (deep j d k (length track.stops) long total);
-          needs = subst (λ (i : InstanceId). Member i (needed_by (slice M' stop.1.address))) (right_instance use_no j ∙ later use_no j d k (length track.stops) long total)
-              (circuit_needed M' (right_circuit_of use_no (j + 1)) stop.0 stop.1.address (right_there_at b ds written p number use_no false track offered j stop within at));
+          needs = subst (λ (i : InstanceId). Member i (needed_by (slice W' stop.1.address))) (right_instance use_no j ∙ later use_no j d k (length track.stops) long total)
+              (circuit_needed W' (right_circuit_of use_no (j + 1)) stop.0 stop.1.address (in_placed b ds (key.Attach (circuit_label_of (right_circuit_of use_no (j + 1))).0) (low.AttachCircuit (right_circuit_of use_no (j + 1)) stop.0 stop.1.address) (right_there_at b ds written p number use_no false track offered j stop within at)));
         }
       where
         place_is : (j d k n : ℕ) → k ≡ n → j + suc d ≡ n → k - suc d ≡ j
@@ -260,13 +264,13 @@ module _ (b : Checked) (ds : List Checked) (written : (c : Checked) → Member c
         later : (u j d k n : ℕ) → k ≡ n → j + suc d ≡ n → hop_instance_of u (j + 1) ≡ hop_instance_of u (k - d)
         later u j d k n e f = ap (hop_instance_of u) (later_place j d k n e f)
 
-    pub goes_forwards : (n : Node) → Member n (standing cs') → Member (hop_instance_of use_no 0) (needed_by (slice M' n.address)) → IsCommonWay cs' n (hop_instance_of use_no 0) p.destination.0 (visited (through use_no false) track) number
+    pub goes_forwards : (n : Node) → Member n (standing cs') → Member (hop_instance_of use_no 0) (needed_by (slice W' n.address)) → IsCommonWay cs' n (hop_instance_of use_no 0) p.destination.0 (visited (through use_no false) track) number
     goes_forwards n n_stays needed =
         let first : hop_at right_side (length track.stops) ≡ hop_instance_of use_no 0 = ap (hop_instance_of use_no) (none (length (hops b ds written p number use_no false track offered)) (length track.stops) (as_long track.stops)) in
         subst (λ (i : InstanceId). IsCommonWay cs' n i p.destination.0 (visited (through use_no false) track) number) first
         (goes_down b ds written number track.to p.destination arrival stays there right_side of_right (subnet b ds written p number use_no false track offered) in_right_side (subnet_holds b ds written p number use_no false track offered) refl
         (length track.stops) track.stops (forwards_down RightStop track.stops right_stop [] track.stops refl) n n_stays
-        (subst (λ (i : InstanceId). Member i (needed_by (slice M' n.address))) (sym first) needed))
+        (subst (λ (i : InstanceId). Member i (needed_by (slice W' n.address))) (sym first) needed))
       where
         none : (k n : ℕ) → k ≡ n → k - n ≡ 0
         none k n e = omega (arith, e)
@@ -295,8 +299,8 @@ module _ (b : Checked) (ds : List Checked) (written : (c : Checked) → Member c
           stands = stop_stands b ds written p number use_no true track offered stop (among b ds written p number use_no true track offered d stop at);
           circuit = subst AtRight (plus d) (right_there_at b ds written p number use_no true track offered d stop within at);
           behind = other_of_right (16384 + 16 * use_no + d) (right_circuit_of use_no (suc d)) (double use_no d);
-          needs = subst (λ (i : InstanceId). Member i (needed_by (slice M' stop.1.address))) (left_instance use_no d)
-              (circuit_needed M' (left_circuit_of use_no (d + 1)) stop.0 stop.1.address (left_there_at b ds written p number use_no true track offered d stop within at));
+          needs = subst (λ (i : InstanceId). Member i (needed_by (slice W' stop.1.address))) (left_instance use_no d)
+              (circuit_needed W' (left_circuit_of use_no (d + 1)) stop.0 stop.1.address (in_placed b ds (key.Attach (circuit_label_of (left_circuit_of use_no (d + 1))).0) (low.AttachCircuit (left_circuit_of use_no (d + 1)) stop.0 stop.1.address) (left_there_at b ds written p number use_no true track offered d stop within at)));
         }
       where
         plus : (d : ℕ) → d + 1 ≡ suc d
@@ -305,7 +309,7 @@ module _ (b : Checked) (ds : List Checked) (written : (c : Checked) → Member c
         double : (u d : ℕ) → 2 * (16384 + 16 * u + suc d) ≡ 2 * (16384 + 16 * u + d + 1)
         double u d = omega arith
 
-    pub goes_mirrored : (n : Node) → Member n (standing cs') → Member (hop_instance_of use_no (length track.stops)) (needed_by (slice M' n.address)) → IsCommonWay cs' n (hop_instance_of use_no (length track.stops)) p.destination.0 (visited (through use_no true) track) number
+    pub goes_mirrored : (n : Node) → Member n (standing cs') → Member (hop_instance_of use_no (length track.stops)) (needed_by (slice W' n.address)) → IsCommonWay cs' n (hop_instance_of use_no (length track.stops)) p.destination.0 (visited (through use_no true) track) number
     goes_mirrored n n_stays needed =
         let back : List Stop = reverse track.stops in
         let long : length back ≡ length track.stops = length-reverse track.stops in
@@ -315,4 +319,4 @@ module _ (b : Checked) (ds : List Checked) (written : (c : Checked) → Member c
         (subst (λ (i : InstanceId). IsCommonWay cs' n i p.destination.0 (map (λ (s : Stop). s.0) back) number) last
         (goes_down b ds written number track.to p.destination arrival stays there left_side of_left (subnet b ds written p number use_no true track offered) in_left_side (subnet_holds b ds written p number use_no true track offered) refl
         (length back) back (backwards_down LeftStop track.stops left_stop back [] whole) n n_stays
-        (subst (λ (i : InstanceId). Member i (needed_by (slice M' n.address))) (sym last) needed)))
+        (subst (λ (i : InstanceId). Member i (needed_by (slice W' n.address))) (sym last) needed)))

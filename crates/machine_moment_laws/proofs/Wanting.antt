@@ -6,9 +6,9 @@ use Rattle.run_ties.specs.ConfigCheck.Checked.{Checked}
 use Rattle.node_laws.specs.NodeModel.Keys.{Key, Low, Publish, Row, Subscribe, Vpn}
 use Rattle.node_laws.specs.NodeModel.Maps.{Map}
 use Rattle.node_laws.specs.NodeModel.Members.{Member}
-use Rattle.machine_model.specs.Moments.{Each, nodes}
+use Rattle.machine_model.specs.Moments.{ArePositive, Each, nodes}
 use Rattle.machine_model.specs.Network.{sessions_of, view, views_of, wanted}
-use Rattle.machine_model.specs.Session.{Agent, Configuration, Controller, Role, Session}
+use Rattle.machine_model.specs.Session.{Agent, Configuration, Controller, Message, Role, Session}
 use Rattle.machine_model.specs.Setup.{Name, Setup, opening}
 use Rattle.machine_model.proofs.Twins.{each_and, each_weaker}
 use Rattle.machine_laws.specs.Headline.{IsWritten}
@@ -16,7 +16,8 @@ use Rattle.machine_laws.specs.Settling.{FairMap}
 use Rattle.machine_moment_laws.proofs.Here.{Here, lasts}
 use Rattle.machine_moment_laws.proofs.Keys.{keys_wanted}
 use Rattle.machine_moment_laws.proofs.OfSome.{AreSomeTo, source_rank, some_to, wants_some_to}
-use Rattle.machine_moment_laws.proofs.Says.{HoldsTo, Says, SaysBy, both_last, holds_of, lasting}
+use Rattle.machine_moment_laws.proofs.Meeting.{meets_up}
+use Rattle.machine_moment_laws.proofs.Says.{HoldsTo, Says, SaysBy, both_last, lasting}
 use Rattle.machine_moment_laws.proofs.Stays.{HasKeys}
 use Rattle.machine_moment_laws.proofs.Stood.{HoldStood, kind, stood, stood_held, wants_stood}
 use Rattle.machine_moment_laws.proofs.Exchanges.{Good, IsBack}
@@ -25,21 +26,32 @@ module _ (b : Checked) (ds : List Checked) (written : (c : Checked) → Member c
   abbrev cs : List Checked
   cs = b ∷ ds
 
-  -- both ends hold it
-  pub holds_back : (r : ℕ) (ss : List Session) → Each (IsBack b ds written r) ss → Each (HoldsTo b ds written r) ss
-  holds_back r ss e = each_weaker (IsBack b ds written r) (HoldsTo b ds written r) (λ s f. holds_of b ds written r s f.0) ss e
+  module _ (size : Name → Message → ℕ) (positive : ArePositive size) where
+    -- both ends hold it
+    holds_at : (r : ℕ) (s : Session) → IsBack b ds written size positive r s → HoldsTo b ds written r s
+    holds_at r s f l =
+        let g = f.0 l in
+        record {
+          near_up = λ rank. (meets_up (Says b ds written r) r size positive (nodes s) s rank g).0;
+          far_up = λ rank. (meets_up (Says b ds written r) r size positive (nodes s) s rank g).1;
+          near_held = g.1.near_held;
+          far_held = g.1.far_held;
+        }
 
-  pub some_back : (r : ℕ) (ss : List Session) → Each (IsBack b ds written r) ss → Each (AreSomeTo cs r) ss
-  some_back r ss e = each_weaker (IsBack b ds written r) (AreSomeTo cs r) (λ s f. (f.1.0.near_held, f.1.0.far_held)) ss e
+    pub holds_back : (r : ℕ) (ss : List Session) → Each (IsBack b ds written size positive r) ss → Each (HoldsTo b ds written r) ss
+    holds_back r ss e = each_weaker (IsBack b ds written size positive r) (HoldsTo b ds written r) (holds_at r) ss e
 
-  pub stood_back : (r : ℕ) (ss : List Session) → Each (IsBack b ds written r) ss → Each (HoldStood cs b.topology.asn r) ss
-  stood_back r ss e = each_weaker (IsBack b ds written r) (HoldStood cs b.topology.asn r) (λ s f. stood_held cs b.topology.asn r s f.1.1) ss e
+    pub some_back : (r : ℕ) (ss : List Session) → Each (IsBack b ds written size positive r) ss → Each (AreSomeTo cs r) ss
+    some_back r ss e = each_weaker (IsBack b ds written size positive r) (AreSomeTo cs r) (λ s f. (f.1.0.near_held, f.1.0.far_held)) ss e
+
+    pub stood_back : (r : ℕ) (ss : List Session) → Each (IsBack b ds written size positive r) ss → Each (HoldStood cs b.topology.asn r) ss
+    stood_back r ss e = each_weaker (IsBack b ds written size positive r) (HoldStood cs b.topology.asn r) (λ s f. stood_held cs b.topology.asn r s f.1.1) ss e
 
   abbrev pub Tells : ℕ → Session → Map → Type 0
   Tells r s m = Good b ds written r (s.near.name, s.near.role) (s.far.name, s.far.role) m
 
-  pub wants_good : (r : ℕ) (x : Setup) (ss : List Session) → Here b ds written x (map nodes ss) → Each (IsBack b ds written r) ss → (n : Name) → Each (λ s. Tells (suc r) s (wanted x (views_of n ss) (view s))) (sessions_of n ss)
-  wants_good r x ss here e n =
+  pub wants_good : (size : Name → Message → ℕ) (positive : ArePositive size) (r : ℕ) (x : Setup) (ss : List Session) → Here b ds written x (map nodes ss) → Each (IsBack b ds written size positive r) ss → (n : Name) → Each (λ s. Tells (suc r) s (wanted x (views_of n ss) (view s))) (sessions_of n ss)
+  wants_good size positive r x ss here e n =
       let own = sessions_of n ss in
       let W : Session → Map = λ s. wanted x (views_of n ss) (view s) in
       let Keys : Session → Type 0 = λ s. lasting b ds written s ≡ true → HasKeys (Says b ds written (suc r)) (s.near.name, s.near.role) (s.far.name, s.far.role) (W s) in
@@ -48,10 +60,10 @@ module _ (b : Checked) (ds : List Checked) (written : (c : Checked) → Member c
       each_weaker (λ s. Keys s × (Some' s × Stood' s)) (λ s. Tells (suc r) s (W s))
       (λ s q. ((λ l k. q.0 (both_last (lasts b ds written s.near.name) (lasts b ds written s.far.name) l k)), q.1)) own
       (each_and Keys (λ s. Some' s × Stood' s) own
-      (keys_wanted b ds written r x ss here (holds_back r ss e) (some_back r ss e) (stood_back r ss e) n)
+      (keys_wanted b ds written r x ss here (holds_back size positive r ss e) (some_back size positive r ss e) (stood_back size positive r ss e) n)
       (each_and Some' Stood' own
-      (wants_some_to cs r x ss n here.among (some_back r ss e))
-      (wants_stood b ds written b.topology.asn r x ss here here.asn (some_back r ss e) (stood_back r ss e) n)))
+      (wants_some_to cs r x ss n here.among (some_back size positive r ss e))
+      (wants_stood b ds written b.topology.asn r x ss here here.asn (some_back size positive r ss e) (stood_back size positive r ss e) n)))
 
   -- ---- up to a lesser rank
   more : (a r : ℕ) → a ≤ r → a ≤ suc r

@@ -12,7 +12,7 @@ use Rattle.hitless_laws.specs.Keeping.{Keep}
 use Rattle.hitless_laws.specs.Ways.{Offers, Track, Way, visited}
 use Rattle.machine_model.specs.Events.{forwarders}
 use Rattle.machine_model.specs.Network.{MachineState}
-use Rattle.machine_moment_laws.specs.Kept.{HasOneAddress, IsDeliveredBy, IsInHand}
+use Rattle.machine_moment_laws.specs.Kept.{IsDeliveredBy, IsInHand}
 
 -- none of these ways, by the track that all configurations offer it with, visits more services
 abbrev pub VisitAtMost : ℕ → List Checked → Packet → PortNo → List Way → Type 0
@@ -23,7 +23,7 @@ VisitAtMost most cs p number ways =
 -- five rounds later, and one more for each service of the longest of the packet's own ways, it is delivered by one of them
 abbrev pub KeptAreDeliveredAgain : ℕ → List Checked → MachineState → Type 0
 KeptAreDeliveredAgain rounds cs w =
-    (p : Packet) (number : PortNo) (ways : List Way) → Keep cs p number ways → HasOneAddress cs p.source
+    (p : Packet) (number : PortNo) (ways : List Way) → Keep cs p number ways
     → IsInHand cs p number ways → (most : ℕ) → VisitAtMost most cs p number ways → most + 5 ≤ rounds
     → IsDeliveredBy cs p number ways (forwarding (forwarders w) p)
 

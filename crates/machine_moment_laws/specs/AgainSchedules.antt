@@ -18,18 +18,18 @@ use Rattle.schedule_laws.specs.Runs.{tied_moment}
 use Rattle.hitless_laws.specs.Keeping.{Keep}
 use Rattle.hitless_laws.specs.Ways.{Way}
 use Rattle.machine_moment_laws.specs.Windows.{IsOfWindow}
-use Rattle.machine_moment_laws.specs.Kept.{HasOneAddress, IsDeliveredBy, IsInHand}
+use Rattle.machine_moment_laws.specs.Kept.{IsDeliveredBy, IsInHand}
 use Rattle.machine_moment_laws.specs.KeptSchedules.{OfOutcome, configurations_since}
-use Rattle.machine_moment_laws.specs.Recovery.{AreUp, rounds_in}
+use Rattle.machine_moment_laws.specs.Recovery.{NoneIsDown, rounds_in}
 use Rattle.machine_moment_laws.specs.Again.{VisitAtMost}
 
--- at a place of these events all sessions were up, and since then no session was lost by itself, no node restarted, and no
+-- at a place of these events no session was down, and since then no session was lost by itself, no node restarted, and no
 -- send was broken
 pub record GoesOnSince (x : Checked) (since : ℕ) (es : List Event) : Type 0 where
-  pub begins : AreUp (tied_moment x (take since es)).network
+  pub begins : NoneIsDown (tied_moment x (take since es)).network
   pub goes_on : AllByRecursion IsOfWindow (map event_of (drop since es))
 
--- the rounds since then that began while no session was down
+-- the rounds since then, and each settling as one
 abbrev pub rounds_since : Checked → ℕ → List Event → ℕ
 rounds_since x since es =
     rounds_in message_size (tied_moment x (take since es)).network
@@ -38,7 +38,7 @@ rounds_since x since es =
 -- so many rounds later a packet is delivered that these configurations keep to a port; and all that one delivers, where it is
 -- alone
 pub record DeliversAgainSince (rounds : ℕ) (cs : List Checked) (p : Packet) (o : Outcome) : Type 0 where
-  pub kept : (number : PortNo) (ways : List Way) → Keep cs p number ways → HasOneAddress cs p.source
+  pub kept : (number : PortNo) (ways : List Way) → Keep cs p number ways
       → IsInHand cs p number ways → (most : ℕ) → VisitAtMost most cs p number ways → most + 5 ≤ rounds
       → IsDeliveredBy cs p number ways o
   pub by_one : (c : Checked) → cs ≡ c ∷ [] → (number : PortNo) (services : List ServiceNo)

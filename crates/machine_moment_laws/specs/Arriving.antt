@@ -29,8 +29,7 @@ use Rattle.transform_forwarding_laws.specs.TransformModel.Objects.{low_objects}
 use Rattle.node_laws.specs.NodeModel.Members.{Member}
 use Rattle.machine_model.specs.Events.{forwarders}
 use Rattle.machine_model.specs.Network.{MachineState}
-use Rattle.machine_laws.specs.Compiled.{agent_rows}
-use Rattle.machine_moment_laws.specs.Common.{ChangesHands, common, rows_at, standing}
+use Rattle.machine_moment_laws.specs.Common.{ChangesHands, rows_at, rows_in_common, standing}
 
 -- what the agent of a compute node forwards by
 abbrev pub agent_at_node : MachineState → Node → Forwarder
@@ -41,13 +40,13 @@ agent_at_node w n = record { address = n.address; rows = rows_at w n }
 pub record LeadsInCommon (cs : List Checked) (n : Node) (i : InstanceId) (address : ℕ) (next : Node) (what : Attached) : Type 0 where
   pub stays : Member n (standing cs)
   pub route : (InstanceId × Block) × RouteEntry
-  pub is_route : Member route (agent_rows (common cs) n.address).routes
+  pub is_route : Member route (rows_in_common cs n.address).routes
   pub instance : route.0.0 ≡ i
   pub holds : contains route.0.1 address ≡ true
   pub in_hand : ChangesHands cs route.0.0 route.0.1 → ⊥
   pub next_stays : Member next (standing cs)
   pub hop : next.address ≡ route.1.next_hop
-  pub label : Member (route.1.label, what) (agent_rows (common cs) next.address).labels
+  pub label : Member (route.1.label, what) (rows_in_common cs next.address).labels
 
 -- from an instance the common part leads an address through these services to a port: behind a service it goes on in the
 -- instance of the other side of the service's circuit
@@ -81,7 +80,7 @@ Meets v address =
 pub record HeadsInCommon (cs : List Checked) (n : Node) (from to address : ℕ) : Type 0 where
   pub stays : Member n (standing cs)
   pub list : LowValue
-  pub is_list : Member (key.Acl from to, list) (agent_rows (common cs) n.address).acls
+  pub is_list : Member (key.Acl from to, list) (rows_in_common cs n.address).acls
   pub meets : (c : Checked) (v : LowValue) → Member c cs → Member (key.Acl from to, v) (low_objects c.topology c.config)
       → Meets v address
   pub alone : (c : Checked) (other : ℕ) (v : LowValue) → Member c cs
@@ -135,10 +134,10 @@ pub record IsDeliveredByOne (cs : List Checked) (n : Node) (from : InstanceId) (
   pub led : IsLedBy cs n from to p q rules
   pub delivered : o ≡ Delivered q led.services
 
--- the common part has the source port of a packet at a node that stands, in this network
+-- the source port of a packet stands at a node that stands, in this network, in all configurations: whatever its address
 pub record StartsInCommon (cs : List Checked) (n : Node) (from : InstanceId) (p : Packet) : Type 0 where
   pub stays : Member n (standing cs)
-  pub label : Member (port_label_of p.source, Port p.source from) (agent_rows (common cs) n.address).labels
+  pub label : Member (port_label_of p.source, Port p.source from) (rows_in_common cs n.address).labels
 
 -- it starts at the agent of that node, in that network
 abbrev pub StartsWhereCommon : List Checked → MachineState → Type 0
@@ -146,7 +145,7 @@ StartsWhereCommon cs w =
     (n : Node) (from : InstanceId) (p : Packet) → StartsInCommon cs n from p
     → first_of (source_at p) (forwarders w) ≡ Some (agent_at_node w n, from)
 
--- so it is with each packet whose source port is common
+-- so it is with each packet whose source port stands so
 abbrev pub DeliversByOne : List Checked → MachineState → Type 0
 DeliversByOne cs w =
     (n : Node) (from : InstanceId) (to : ℕ) (p : Packet) (q : PortNo) → StartsInCommon cs n from p → IsLedByAll cs n from to p q

@@ -3,11 +3,13 @@ use Rattle.std.specs.Prelude.{◌≡◌, ◌≢◌, ◌==◌, ◌+◌, length, �
 use Rattle.std.specs.declared.option.Option.{Option}
 use Rattle.std.specs.declared.option.Option.TheVariants.{Some, None}
 use Rattle.std.specs.FinMap.{entries, from_entries}
-use Rattle.std.specs.List.{filter, filter_map, list_all, list_any}
+use Rattle.std.specs.List.{filter, filter_map, flat_map, list_all, list_any}
 use Rattle.std.specs.Cmp.Lexicographic.{pointwise}
+use Rattle.ov_types.specs.Keys.{row_key_cmp}
 use Rattle.ov_types.specs.Prefix.{Block, contains}
 use Rattle.ov_types.specs.declared.numbers.InstanceId.{InstanceId}
 use Rattle.ov_types.specs.declared.numbers.Label.{Label as LabelNo}
+use Rattle.ov_types.specs.declared.numbers.PortNo.{PortNo}
 use Rattle.ov_types.specs.declared.numbers.ServiceNo.{ServiceNo}
 use Rattle.ov_types.specs.declared.objects.AclRule.{AclRule}
 use Rattle.ov_types.specs.declared.objects.LowKey.{LowKey}
@@ -22,6 +24,7 @@ use Rattle.route_targets.specs.Numbers.{circuit_instance_of, circuit_label_of, l
 use Rattle.config_types.specs.declared.topology.Node.{Node}
 use Rattle.run_ties.specs.ConfigCheck.Checked.{Checked}
 use Rattle.run_ties.specs.ConfigCheck.Finding.{node_named}
+use Rattle.transform_forwarding_laws.specs.TransformModel.Compiled.{route_of}
 use Rattle.transform_forwarding_laws.specs.TransformModel.Objects.{low_objects}
 use Rattle.node_laws.specs.NodeModel.Agent as agent
 use Rattle.node_laws.specs.NodeModel.Agent.{entered_by}
@@ -32,10 +35,11 @@ use Rattle.node_laws.specs.NodeModel.Reaching.{below}
 use Rattle.node_laws.specs.NodeModel.Tables.{same_prefix}
 use Rattle.node_laws.specs.NodeModel.Uses.{imports, is_hop, network_imports, use_of}
 use Rattle.node_laws.specs.NodeModel.Values.{Value, Object, same_value}
+use Rattle.node_laws.specs.NodeModel.Wants.{slice}
 use Rattle.machine_model.specs.Events.{agent_rows as held_by_agent}
 use Rattle.machine_model.specs.Network.{MachineState}
 use Rattle.machine_model.specs.Setup.{low_in, stands}
-use Rattle.machine_laws.specs.Compiled.{Attachment, agent_rows, attachments, same_instance}
+use Rattle.machine_laws.specs.Compiled.{Attachment, attachments, rows_in, same_instance}
 
 -- ---- compute nodes that stand the same in all configurations: with one address and one list of control nodes
 abbrev pub stands_in : Node → Checked → Bool
@@ -96,6 +100,12 @@ is_use_of left right hops _ = false
 abbrev pub is_object : LowValue → Option LowValue → Bool
 is_object v (Some w) = same_value (Object w) (Object v)
 is_object v None = false
+
+-- a port at this node in this network, whatever its address
+abbrev pub is_port_in : PortNo → InstanceId → Addr → Option LowValue → Bool
+is_port_in port instance node (Some (low.AttachPort p i address n)) =
+    (p.0 == port.0) && (same_instance i instance && (n.0 == node.0))
+is_port_in port instance node _ = false
 
 -- ---- what is common
 module _ (nodes : List Node) (feeds : List Map) where
@@ -175,10 +185,42 @@ module _ (nodes : List Node) (feeds : List Map) where
   abbrev pub common_to : Map → Map
   common_to m = from_entries (filter_map (λ e. common_entry m e.0 e.1) (entries m))
 
+  -- and where a port stands at one node, which stands, and in one network, that it stands there, whatever its address
+  abbrev pub placed_entry : Map → Key → Value → Option (Key × Value)
+  placed_entry m (Low k) (Object (low.AttachPort port instance address node)) =
+      if list_all (λ f. is_port_in port instance node (object f k)) feeds && stands_at nodes node
+      then Some (Low k, Object (low.AttachPort port instance address node)) else None
+  placed_entry m k v = common_entry m k v
+
+  abbrev pub placed_to : Map → Map
+  placed_to m = from_entries (filter_map (λ e. placed_entry m e.0 e.1) (entries m))
+
 -- the common part of configurations, as a feed
 abbrev pub common : List Checked → Map
 common [] = from_entries []
 common (c ∷ cs) = common_to (standing (c ∷ cs)) (map low_in cs) (low_in c)
+
+-- the common part, with the ports that stand at one node and in one network but have another address in some configuration.
+-- Nothing leads to those. But they start packets: so their labels, access lists and instances are at the agent of their node
+abbrev pub placed : List Checked → Map
+placed [] = from_entries []
+placed (c ∷ cs) = placed_to (standing (c ∷ cs)) (map low_in cs) (low_in c)
+
+-- what the agent at an address has of it: the labels and the access lists of what is placed there, and of the instances that
+-- those need the rows that the common part compiles to
+abbrev pub rows_in_common : List Checked → Addr → AgentRows
+rows_in_common cs address = record {
+  labels = filter_map (λ e. agent.attached e.0 e.1) (slice (placed cs) address);
+  acls = filter_map (λ e. agent.acl_entry e.0 e.1) (slice (placed cs) address);
+  routes = entries (from_entries {R = row_key_cmp}
+      (map route_of (flat_map (rows_in (common cs)) (agent.needed_by (slice (placed cs) address)))));
+}
+
+-- rows that have all of others: each label, each access list and each route
+pub record HasAllRows (rows others : AgentRows) : Type 0 where
+  pub labels : (l : LabelNo × Attached) → Member l others.labels → Member l rows.labels
+  pub acls : (a : LowKey × LowValue) → Member a others.acls → Member a rows.acls
+  pub routes : (r : (InstanceId × Block) × RouteEntry) → Member r others.routes → Member r rows.routes
 
 -- ---- addresses that change hands
 -- in some configuration the instance imports that one, and in some configuration that one has something attached under the
@@ -205,28 +247,27 @@ abbrev pub rows_at : MachineState → Node → AgentRows
 rows_at w n = agent.rows (held_by_agent w n.name)
 
 -- Each agent whose compute node stands the same in all configurations has what the common part compiles to: each label,
--- the key of each access list, and each route, but for those to an address that changed hands
-pub record HasCommonRows (feed : Map) (Exempt : InstanceId → Block → Type 0) (address : Addr) (rows : AgentRows) : Type 0 where
-  pub labels : (l : LabelNo × Attached) → Member l (agent_rows feed address).labels → Member l rows.labels
-  pub acls : (k : LowKey) (v : LowValue) → Member (k, v) (agent_rows feed address).acls
+-- the key of each access list, and each route, but for those to an address that changed hands. So it has for each port that
+-- stands there in one network, though its address may change
+pub record HasCommonRows (cs : List Checked) (address : Addr) (rows : AgentRows) : Type 0 where
+  pub labels : (l : LabelNo × Attached) → Member l (rows_in_common cs address).labels → Member l rows.labels
+  pub acls : (k : LowKey) (v : LowValue) → Member (k, v) (rows_in_common cs address).acls
       → (u : LowValue) × Member (k, u) rows.acls
-  pub routes : (r : (InstanceId × Block) × RouteEntry) → Member r (agent_rows feed address).routes
-      → (Exempt r.0.0 r.0.1 → ⊥) → Member r rows.routes
+  pub routes : (r : (InstanceId × Block) × RouteEntry) → Member r (rows_in_common cs address).routes
+      → (ChangesHands cs r.0.0 r.0.1 → ⊥) → Member r rows.routes
 
 abbrev pub WhatIsCommonStays : List Checked → MachineState → Type 0
-WhatIsCommonStays cs w =
-    (n : Node) → Member n (standing cs) → HasCommonRows (common cs) (ChangesHands cs) n.address (rows_at w n)
+WhatIsCommonStays cs w = (n : Node) → Member n (standing cs) → HasCommonRows cs n.address (rows_at w n)
 
 -- Where the common part leads an address in an instance, an agent leads it there alone: of its routes in that instance that
 -- contain the address there is none but that one
-pub record IsLedAlone (feed : Map) (Exempt : InstanceId → Block → Type 0) (address : Addr) (rows : AgentRows) : Type 0 where
-  pub alone : (r s : (InstanceId × Block) × RouteEntry) (d : ℕ) → Member r (agent_rows feed address).routes
-      → (Exempt r.0.0 r.0.1 → ⊥) → Member s rows.routes → s.0.0 ≡ r.0.0 → contains r.0.1 d ≡ true
+pub record IsLedAlone (cs : List Checked) (address : Addr) (rows : AgentRows) : Type 0 where
+  pub alone : (r s : (InstanceId × Block) × RouteEntry) (d : ℕ) → Member r (rows_in_common cs address).routes
+      → (ChangesHands cs r.0.0 r.0.1 → ⊥) → Member s rows.routes → s.0.0 ≡ r.0.0 → contains r.0.1 d ≡ true
       → contains s.0.1 d ≡ true → s ≡ r
 
 abbrev pub NothingElseLeads : List Checked → MachineState → Type 0
-NothingElseLeads cs w =
-    (n : Node) → Member n (standing cs) → IsLedAlone (common cs) (ChangesHands cs) n.address (rows_at w n)
+NothingElseLeads cs w = (n : Node) → Member n (standing cs) → IsLedAlone cs n.address (rows_at w n)
 
 -- ---- access lists
 -- each access list that an agent has in use is that of some configuration

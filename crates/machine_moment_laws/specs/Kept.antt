@@ -25,12 +25,6 @@ use Rattle.machine_model.specs.Events.{forwarders}
 use Rattle.machine_model.specs.Network.{MachineState}
 use Rattle.machine_moment_laws.specs.Windows.{IsOfOneEdit}
 
--- the port of one number has one address in all of these configurations
-abbrev pub HasOneAddress : List Checked → PortNo → Type 0
-HasOneAddress cs number =
-    (x y : Checked) (a b : Port) → Contains cs x → Contains cs y → Contains x.config.ports a → Contains y.config.ports b
-    → a.id ≡ number → b.id ≡ number → a.address ≡ b.address
-
 -- no chain is led through
 abbrev pub IsStraight : Way → Type 0
 IsStraight inside = ⊤
@@ -53,17 +47,17 @@ pub record IsDeliveredBy (cs : List Checked) (p : Packet) (number : PortNo) (way
   pub delivered : o ≡ Delivered number (visited way track)
   pub as_one : Any (λ x. o ≡ reachability x.config p) cs
 
--- each packet that all configurations keep to a port by some ways, whose source port keeps its address and whose
--- destination's address is in hand, is delivered there by one of them
+-- each packet that all configurations keep to a port by some ways, and whose destination's address is in hand, is delivered
+-- there by one of them
 abbrev pub KeptAreDelivered : List Checked → MachineState → Type 0
 KeptAreDelivered cs w =
-    (p : Packet) (number : PortNo) (ways : List Way) → Keep cs p number ways → HasOneAddress cs p.source
-    → IsInHand cs p number ways → IsDeliveredBy cs p number ways (forwarding (forwarders w) p)
+    (p : Packet) (number : PortNo) (ways : List Way) → Keep cs p number ways → IsInHand cs p number ways
+    → IsDeliveredBy cs p number ways (forwarding (forwarders w) p)
 
 -- the same of a window with one accepted edit at most, where no address changes hands
 abbrev pub KeptInOneEdit : List Checked → MachineState → Type 0
 KeptInOneEdit cs w =
-    IsOfOneEdit cs → (p : Packet) (number : PortNo) (ways : List Way) → Keep cs p number ways → HasOneAddress cs p.source
+    IsOfOneEdit cs → (p : Packet) (number : PortNo) (ways : List Way) → Keep cs p number ways
     → IsDeliveredBy cs p number ways (forwarding (forwarders w) p)
 
 -- ---- of one accepted edit, in the words of policies
@@ -76,13 +70,13 @@ abbrev pub GoesByEither : List Checked → MachineState → Type 0
 GoesByEither cs w =
     (x y : Checked) → cs ≡ x ∷ y ∷ [] → (p : Packet) (number : PortNo) (before after : Way) → LeadsTo x.config p number before
     → LeadsTo y.config p number after → OfferAlike x y p number before → OfferAlike x y p number after
-    → HasOneAddress cs p.source → IsOfEither x y p (forwarding (forwarders w) p)
+    → IsOfEither x y p (forwarding (forwarders w) p)
 
 -- where the edit is hitless, each packet that both configurations deliver
 abbrev pub HitlessInterruptsNothing : List Checked → MachineState → Type 0
 HitlessInterruptsNothing cs w =
     (x y : Checked) → cs ≡ x ∷ y ∷ [] → IsHitless x y → (p : Packet) (number : PortNo) → Delivers x p number
-    → Delivers y p number → HasOneAddress cs p.source → IsOfEither x y p (forwarding (forwarders w) p)
+    → Delivers y p number → IsOfEither x y p (forwarding (forwarders w) p)
 
 -- all that a configuration delivers is delivered so
 abbrev pub StaysDelivered : Checked → MachineState → Type 0
@@ -104,6 +98,12 @@ DeleteInterruptsNothing kind cs w =
     → edit_fault x (Delete kind name) ≡ None → StaysDelivered (edited (Delete kind name) x) w
 
 -- ---- when a port keeps its address
+-- the port of one number has one address in all of these configurations
+abbrev pub HasOneAddress : List Checked → PortNo → Type 0
+HasOneAddress cs number =
+    (x y : Checked) (a b : Port) → Contains cs x → Contains cs y → Contains x.config.ports a → Contains y.config.ports b
+    → a.id ≡ number → b.id ≡ number → a.address ≡ b.address
+
 -- an edit puts a port of this number
 abbrev pub PutsPort : Edit → PortNo → Type 0
 PutsPort e number = (o : Port) × (e ≡ Put (Objects.Port o)) × (o.id ≡ number)

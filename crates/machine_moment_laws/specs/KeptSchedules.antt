@@ -18,7 +18,7 @@ use Rattle.schedule_laws.specs.Runs.{tied_moment}
 use Rattle.hitless_laws.specs.Keeping.{Keep}
 use Rattle.hitless_laws.specs.Ways.{Way}
 use Rattle.machine_moment_laws.specs.Windows.{IsBeginning, IsOfOneEdit, IsOfWindow, configurations}
-use Rattle.machine_moment_laws.specs.Kept.{HasOneAddress, IsDeliveredBy, IsInHand}
+use Rattle.machine_moment_laws.specs.Kept.{IsDeliveredBy, IsInHand}
 
 -- since a place of these events a window goes on: the moment there was settled with no break pending, and since then no
 -- session was lost by itself, no node restarted, and no send was broken
@@ -32,13 +32,13 @@ configurations_since x since es =
     configurations message_size (tied_moment x (take since es)).network
     (kept_events message_size (tied_moment x (take since es)) (map event_of (drop since es)))
 
--- a packet that these configurations keep to a port, and whose source port keeps its address, is delivered there by one of its
--- ways: where its destination's address does not change hands, and wherever there was one accepted edit at most
+-- a packet that these configurations keep to a port is delivered there by one of its ways: where its destination's address
+-- does not change hands, and wherever there was one accepted edit at most
 pub record DeliversIfKept (cs : List Checked) (p : Packet) (o : Outcome) : Type 0 where
-  pub in_hand : (number : PortNo) (ways : List Way) → Keep cs p number ways → HasOneAddress cs p.source
-      → IsInHand cs p number ways → IsDeliveredBy cs p number ways o
+  pub in_hand : (number : PortNo) (ways : List Way) → Keep cs p number ways → IsInHand cs p number ways
+      → IsDeliveredBy cs p number ways o
   pub in_one_edit : IsOfOneEdit cs → (number : PortNo) (ways : List Way) → Keep cs p number ways
-      → HasOneAddress cs p.source → IsDeliveredBy cs p number ways o
+      → IsDeliveredBy cs p number ways o
 
 -- where an event is the trace of a packet, this is said of the packet and of the outcome that is answered
 abbrev pub OfOutcome : (Packet → Outcome → Type 0) → Event → TiedAnswer → Type 0

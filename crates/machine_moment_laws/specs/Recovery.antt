@@ -1,6 +1,6 @@
 -- How soon what configurations have in common is there again: rounds are counted, whatever other edits go on meanwhile.
-use Rattle.std.specs.Prelude.{◌≡◌, ◌≤◌, ◌<◌, ◌++◌, ℕ, ◌+◌, List, [], ◌∷◌, length, Bool, true, ◌&&◌, false, if◌then◌else◌}
-use Rattle.std.specs.List.{AllByRecursion, list_all}
+use Rattle.std.specs.Prelude.{◌≡◌, ◌≤◌, ◌<◌, ◌++◌, ℕ, ◌+◌, List, [], ◌∷◌, length, Bool, true, false, if◌then◌else◌}
+use Rattle.std.specs.List.{AllByRecursion}
 use Rattle.ov_types.specs.Prefix.{Block}
 use Rattle.ov_types.specs.declared.numbers.InstanceId.{InstanceId}
 use Rattle.ov_types.specs.declared.numbers.PortNo.{PortNo}
@@ -16,11 +16,11 @@ use Rattle.run_ties.specs.ConfigCheck.Checked.{Checked}
 use Rattle.transform_forwarding_laws.specs.TransformModel.Objects.{low_objects}
 use Rattle.node_laws.specs.NodeModel.Members.{Member}
 use Rattle.node_laws.specs.NodeModel.Reaching.{Side, sides}
-use Rattle.machine_model.specs.Events.{MachineEvent, Round, after, forwarders, next}
+use Rattle.machine_model.specs.Events.{MachineEvent, Round, Settle, after, forwarders, next}
 use Rattle.machine_model.specs.Moments.{ArePositive, EditsAreValid}
 use Rattle.machine_model.specs.Network.{MachineState, start}
 use Rattle.machine_model.specs.Rounds.{is_unbroken, is_whole}
-use Rattle.machine_model.specs.Session.{Message, Session, is_up}
+use Rattle.machine_model.specs.Session.{Message}
 use Rattle.machine_model.specs.Setup.{Name, opening}
 use Rattle.machine_laws.specs.Headline.{IsOfForm, IsWritten}
 use Rattle.machine_moment_laws.specs.Arriving.{IsCommonWay, IsDeliveredByOne, IsLedByAll, StartsInCommon, agent_at_node}
@@ -28,20 +28,18 @@ use Rattle.machine_moment_laws.specs.Common.{WhatIsCommonStays, common}
 use Rattle.machine_moment_laws.specs.Windows.{IsOfWindow, configurations}
 
 -- ---- the moment from which on
--- each session is up at both ends, and no break is pending. What is held and what is in flight may be of any configuration
-abbrev pub is_up_at_both : Session → Bool
-is_up_at_both s = is_up s.near && is_up s.far
-
-pub record AreUp (w : MachineState) : Type 0 where
+-- no session is down, and no break is pending. What is held and what is in flight may be of any configuration, and greetings
+-- may be in flight too
+pub record NoneIsDown (w : MachineState) : Type 0 where
   pub whole : is_whole w ≡ true
-  pub up : list_all is_up_at_both w.sessions ≡ true
   pub unbroken : is_unbroken w ≡ true
 
 -- ---- rounds
--- a round counts where no session is down as it begins: one is, from an edit that puts a compute node anew until the node's
--- new sessions are connected
+-- each round counts, also while sessions are down that an edit brought, of a compute node that it moves. To settle counts as
+-- the one that it begins with
 abbrev pub counts : MachineState → MachineEvent → Bool
-counts w Round = is_whole w
+counts w Round = true
+counts w Settle = true
 counts w _ = false
 
 module _ (size : Name → Message → ℕ) where
@@ -50,14 +48,14 @@ module _ (size : Name → Message → ℕ) where
   rounds_in w (e ∷ es) = (if counts w e then 1 else 0) + rounds_in (next size w e) es
 
 -- ---- at every moment so many rounds later
--- From any moment of any schedule at which all sessions are up let no session be lost, no node restart and no send be broken.
+-- From any moment of any schedule at which no session is down let no session be lost, no node restart and no send be broken.
 -- At every moment from there: of the rounds so far, of the configurations so far, and of the network
 abbrev pub AtMomentsSince : (ℕ → List Checked → MachineState → Type 0) → Type 0
 AtMomentsSince P =
     (size : Name → Message → ℕ) → ArePositive size
     → (x : Checked) → IsWritten (opening x)
     → (before : List MachineEvent) → EditsAreValid size IsOfForm (start x) before
-    → AreUp (after size (start x) before)
+    → NoneIsDown (after size (start x) before)
     → (es : List MachineEvent) → AllByRecursion IsOfWindow es
     → EditsAreValid size IsOfForm (after size (start x) before) es
     → P (rounds_in size (after size (start x) before) es) (configurations size (after size (start x) before) es)

@@ -13,10 +13,10 @@ ghost use Rattle.machine_moment_laws.specs.Recovery.{AtMomentsSince};
 ghost use Rattle.machine_moment_laws.specs.Again.{KeptAreDeliveredAgain, OneDeliversAgain};
 ghost use Rattle.machine_moment_laws.specs.AgainSchedules.{IsAgainThroughout};
 
-/// Take any moment at which all sessions are up, whatever is held and in flight then. A packet that all configurations since then
+/// Take any moment at which no session is down, whatever is held and in flight then. A packet that all configurations since then
 /// keep to a port by some ways is delivered there by one of these ways, through just its services: from five rounds later on, and
-/// one more for each service of the longest of these ways, whatever other edits go on meanwhile. Asked is that its source port
-/// keeps its address, and, where a way leads through no chain, that its destination's address does not change hands.
+/// one more for each service of the longest of these ways, whatever other edits go on meanwhile. Asked is, where a way leads
+/// through no chain, that its destination's address does not change hands. The source port may get another address.
 pub fn kept_packets_are_delivered_again()
     ensures { AtMomentsSince KeptAreDeliveredAgain }
 {}

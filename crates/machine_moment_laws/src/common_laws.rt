@@ -1,9 +1,17 @@
 //! What all configurations of a change have in common stays while the change goes on, in any order of deliveries. Laws
 //! alone.
 
+ghost use Rattle.std.specs.Prelude.{List, ◌∷◌};
+ghost use Rattle.ov_types.specs.declared.prefix.Addr.{Addr};
+ghost use Rattle.run_ties.specs.ConfigCheck.Checked.{Checked};
+ghost use Rattle.node_laws.specs.NodeModel.Members.{Member};
+ghost use Rattle.machine_model.specs.Setup.{opening};
+ghost use Rattle.machine_laws.specs.Compiled.{agent_rows};
+ghost use Rattle.machine_laws.specs.Headline.{IsWritten};
 ghost use Rattle.machine_moment_laws.specs.Arriving.{DeliversByOne, GoesTheCommonWay, StartsWhereCommon};
 ghost use Rattle.machine_moment_laws.specs.Arriving.{VerdictsAreOfSome};
-ghost use Rattle.machine_moment_laws.specs.Common.{AccessListsAreOfSome, NothingElseLeads, WhatIsCommonStays};
+ghost use Rattle.machine_moment_laws.specs.Common.{AccessListsAreOfSome, HasAllRows, NothingElseLeads};
+ghost use Rattle.machine_moment_laws.specs.Common.{WhatIsCommonStays, common, rows_in_common};
 ghost use Rattle.machine_moment_laws.specs.Windows.{AtMomentsOfWindows};
 
 /// At every moment of every window each access list that an agent has in use is that of a configuration of the window so
@@ -15,9 +23,16 @@ pub fn access_lists_are_of_some_configuration()
 /// At every moment of every window, in any order of deliveries: each agent whose compute node stands the same in all
 /// configurations of the window so far has what these configurations have in common compiles to. It has each label, the key
 /// of each access list, and each route, with the very compute node and label that it leads to: but for routes to an address
-/// that changed hands between networks which the instance imports.
+/// that changed hands between networks which the instance imports. So it has of each port that all configurations have there in
+/// one network its label, and the access lists and routes that it needs, whatever its address.
 pub fn what_is_common_stays()
     ensures { AtMomentsOfWindows WhatIsCommonStays }
+{}
+
+/// These labels, access lists and routes are all that the common part compiles to by itself, and those of such ports besides.
+pub fn what_the_common_part_compiles_to_is_common()
+    ensures { (b : Checked) (ds : List Checked) → ((c : Checked) → Member c (b ∷ ds) → IsWritten (opening c)) → (address : Addr)
+        → HasAllRows (rows_in_common (b ∷ ds) address) (agent_rows (common (b ∷ ds)) address) }
 {}
 
 /// In no instance, of a network or of a place of a use, has it another route that contains an address which such a route
@@ -39,14 +54,14 @@ pub fn verdicts_are_of_some_configuration()
     ensures { AtMomentsOfWindows VerdictsAreOfSome }
 {}
 
-/// A packet whose source port is common starts at the agent of its compute node, in its network, whichever agents have heard of
-/// the port meanwhile.
+/// A packet whose source port all configurations have at one node and in one network, whatever its address, starts at the agent
+/// of that node, in that network, whichever agents have heard of the port meanwhile.
 pub fn packets_start_where_common_ports_are()
     ensures { AtMomentsOfWindows StartsWhereCommon }
 {}
 
-/// So a packet whose source port is common, and that each configuration of the window so far leads along a common way to one
-/// port, is delivered there, by the way of one of them, through just its services: never by a mixture of several.
+/// So a packet with such a source port, that each configuration of the window so far leads along a common way to one port, is
+/// delivered there, by the way of one of them, through just its services: never by a mixture of several.
 pub fn packets_are_delivered_by_the_way_of_one_configuration()
     ensures { AtMomentsOfWindows DeliversByOne }
 {}

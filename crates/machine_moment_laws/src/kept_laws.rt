@@ -24,8 +24,8 @@ ghost use Rattle.machine_moment_laws.specs.KeptSchedules.{IsKeptThroughout};
 
 /// At every moment of every window: a packet that all configurations of the window so far keep to a port by some ways is
 /// delivered there by one of these ways, through just the services of its track, as the policies of one of these configurations
-/// have it: never by a mixture of several. Asked is that its source port keeps its address, and, where a way leads through no
-/// chain, that its destination's address does not change hands.
+/// have it: never by a mixture of several. Asked is, where a way leads through no chain, that its destination's address does not
+/// change hands. The source port may get another address.
 pub fn kept_packets_are_delivered()
     ensures { AtMomentsOfWindows KeptAreDelivered }
 {}
@@ -75,8 +75,8 @@ pub fn ports_that_are_not_put_keep_their_address()
 {}
 
 /// So it is of the answers of a schedule, place by place, where ties are kept. Where a window goes on since some place, a trace of
-/// a packet that all its configurations keep to a port, and whose source port keeps its address, is answered as delivered there,
-/// by one of its ways. Of hands nothing is asked where the window had one accepted edit at most.
+/// a packet that all its configurations keep to a port is answered as delivered there, by one of its ways. Of hands nothing is
+/// asked where the window had one accepted edit at most.
 pub fn traces_of_kept_packets_are_answered_as_delivered()
     ensures { (x : Checked) → IsWritten (opening x) → (es : List Event) → IsTrue (list_all has_event_form es)
         → IsKeptThroughout x es (answers x es) }

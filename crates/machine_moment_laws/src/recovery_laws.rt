@@ -4,8 +4,9 @@
 ghost use Rattle.machine_moment_laws.specs.Common.{AccessListsAreOfSome, NothingElseLeads};
 ghost use Rattle.machine_moment_laws.specs.Recovery.{AllIsBack, AtMomentsSince, DeliversAgain, GoesTheWayAgain, Later};
 
-/// Take any moment at which all sessions are up, whatever is held and in flight then. From two rounds later on, each access
-/// list in use is that of a configuration since that moment.
+/// Take any moment at which no session is down, whatever is held and in flight then. From two rounds later on, each access
+/// list in use is that of a configuration since that moment. Each round counts, whatever sessions edits bring meanwhile, and to
+/// settle counts as one.
 pub fn old_access_lists_are_gone_after_two_rounds()
     ensures { AtMomentsSince (Later 2 AccessListsAreOfSome) }
 {}
