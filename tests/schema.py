@@ -30,7 +30,7 @@ import jsonschema
 TOP = pathlib.Path(__file__).resolve().parent.parent
 SCHEMA = json.loads((TOP / "docs" / "overlay.schema.json").read_text(encoding="utf-8"))
 COMMANDS = [choice["$ref"].rpartition("/")[2] for choice in SCHEMA["anyOf"]]
-OF_INSPECT = ("expect",)  # the commands of inspect that have a form of their own
+OF_INSPECT = ("expect", "hitless")  # the commands of inspect that have a form of their own
 LARGEST = 1_000_000
 SECONDS = 120
 
@@ -276,6 +276,7 @@ def made():
     yield from changed("run", {**schedule, "events": EVENTS}, seen)
     yield from changed("scale", scale, seen)
     yield from changed("reach", {**pair, "packets": scale["packets"]}, seen)
+    yield from changed("hitless", example("edits.json"), seen)
     yield from changed("expect", {**pair, "packets": [*map(expecting, scale["packets"], EXPECTED)]}, seen)
     yield from changed("compile", pair, seen)
     yield from changed("flows", replies, seen)
