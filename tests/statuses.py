@@ -3,7 +3,8 @@
 another.
 
 Statuses 0 and 2 to 8, `--help`, `-h`, `--version`, a word that is no UTF-8, and outputs that are closed or full; of standard error a
-sentence for each rule that a configuration breaks, for each kind of a document's fault, and for what is no JSON or no digits.
+sentence for each rule that a configuration breaks, for each kind of a document's fault, and for what is no JSON or no digits, and
+what is said beside it.
 Where a sentence says which numbers the form allows, they are to be those of docs/overlay.schema.json.
 Status 9, want of memory, is shown by tests/allocations.py.
 
@@ -95,7 +96,10 @@ REFUSED = [
     (document(networks=[RED, network("blue", 1, "10.2.0.0/24")]), b"DuplicateId network 1",
      b"each network has an id of its own, and two have 1"),
     (document(networks=[network("red", 1, "10.1.0.0/24", policies=["web"])]), b"BadReference web",
-     b"what is referred to has to exist, and nothing of the wanted kind is named web"),
+     b"what is referred to has to exist, and nothing of the wanted kind is named web\n"
+     b"overlay: network red wants a policy of that name, at configuration.networks[0].policies[0]"),
+    (document(networks=[network("red", 1, *(f"10.{n}.0.0/16" for n in range(5)))]), b"Limit subnets",
+     b"a network has at most 4 subnets, and one of these has more\noverlay: network red has 5, at configuration.networks[0].subnets"),
     (document(networks=[network("red", 1, "250.0.0.0/24")]), b"SubnetReserved red 250.0.0.0/24",
      b"250.0.0.0/15 is kept for the addresses of circuits, and subnet 250.0.0.0/24 of network red overlaps it"),
     (document(networks=[network("red", 1, "10.1.0.0/16", "10.1.2.0/24")]), b"SubnetNested red 10.1.0.0/16 10.1.2.0/24",
@@ -142,6 +146,14 @@ BAD = [
      b"configuration.policies[0].rules[0].direction is outside what the form allows there: > or <>"),
     (document(nets=[]), b"configuration.nets Unknown", b"configuration.nets is a member that the form does not have there: "
      b"networks, ports, policies, services and chains"),
+    (json.dumps({**json.loads(document()), "nets": []}).encode(), b"nets Unknown",
+     b"nets is a member that the form does not have there: compile and constrain take topology and configuration, "
+     b"reach packets too, scale groups and packets, run events, flows capacity and steps, and graceful takes events alone\n"
+     b"overlay: compile takes topology and configuration"),
+    (json.dumps({**json.loads(document()), "a.topology.as Range": []}).encode(), b"a.topology.as Range Unknown",
+     b"a.topology.as Range is a member that the form does not have there: compile and constrain take topology and configuration, "
+     b"reach packets too, scale groups and packets, run events, flows capacity and steps, and graceful takes events alone\n"
+     b"overlay: compile takes topology and configuration"),
     (document(**{"n" * 600: []}), b"configuration.%s Unknown" % (b"n" * 600),
      b"configuration.%s.. breaks the form; standard output has the whole path, and how" % (b"n" * 485)),
 ]
@@ -258,6 +270,10 @@ RUNS = [
     ([b"decode"], b"0", 5, b"not hex\n", NO_PAIR % (1, 1)),
     ([b"decode"], KEEPALIVE * 10_000 + b"0", 5, b"not hex\n", NO_PAIR % (10_001, 1)),
     ([b"decode"], KEEPALIVE * 10_000 + b"00 0x", 5, b"not hex\n", STRAY % (10_001, 5)),
+    ([b"run"], json.dumps(with_members(events=["settle", {"show": "n9"}, {"lose": ["n9", "c1"]}])).encode(), 0,
+     b"1 settled rounds 2\n2 idle\n3 idle\n", b"overlay: event 2 names n9, and no such node is there\n"),
+    ([b"run"], json.dumps(with_members(events=[{"lose": ["n1", "n1"]}])).encode(), 0, b"1 idle\n",
+     b"overlay: event 1 names a session of n1 and n1, and they have none\n"),
     *(([b"compile"], text, 7, b"refused " + line + b"\n", b"overlay: " + said + b"\n") for text, line, said in REFUSED),
     *(([b"compile"], text, 6, b"bad document " + line + b"\n", b"overlay: " + said + b"\n") for text, line, said in BAD),
     *bounds(),

@@ -1,10 +1,15 @@
 -- Which members an object of a document may have, as docs/FORMATS.md has them.
-use Rattle.std.specs.Prelude.{ℕ, ◌||◌, Bool, List, codes, nat_eq, if◌then◌else◌}
+use Rattle.std.specs.Prelude.{ℕ, ◌==◌, ◌||◌, Bool, List, codes, nat_eq, if◌then◌else◌}
 use Rattle.std.specs.Cmp.Lexicographic.{pointwise}
+use Rattle.std.specs.List.{before_first}
 use Rattle.explanations.specs.Wanted.{before_point, behind_point, member_name, no_phrase}
 
 abbrev is : List ℕ → List ℕ → Bool
 is word text = pointwise nat_eq word text
+
+-- the first member of a path, without the place of an item
+abbrev pub first_member : List ℕ → List ℕ
+first_member path = member_name (before_first (λ c. c == 46) path)
 
 -- of what the lists of the commands have, and of the edits in them: events, steps and edits have one member
 unfoldable pub listed_members : List ℕ → List ℕ
@@ -37,6 +42,15 @@ members_of parent =
     else (if is parent (codes "chains") || is parent (codes "chain") then codes "name and hops"
     else listed_members parent))))))))))
 
+-- a path begins with a member of the document in which there are objects, or has no point: other names may have points
+unfoldable pub begins_in_form : List ℕ → Bool
+begins_in_form path =
+    let word = first_member path in
+    is word (codes "") || (is word (codes "topology") || (is word (codes "configuration") || (is word (codes "packets")
+    || (is word (codes "groups") || (is word (codes "events") || is word (codes "steps"))))))
+
 -- of the object that a path leads into
-abbrev pub allowed_at : List ℕ → List ℕ
-allowed_at path = members_of (member_name (behind_point (before_point path)))
+unfoldable pub allowed_at : List ℕ → List ℕ
+allowed_at path =
+    let front = before_point path in
+    if begins_in_form front then members_of (member_name (behind_point front)) else members_of (codes "")

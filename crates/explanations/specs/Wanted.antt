@@ -160,7 +160,7 @@ event_member member =
     else (if is member (codes "restart") || is member (codes "show") then name
     else (if is member (codes "trace") then object
     else (if is member (codes "opened") then codes "an OPEN without a fault of its frame or its parts, in pairs of hexadecimal digits"
-    else (if is member (codes "update") then codes "an UPDATE without a fault of its frame or its parts, in pairs of hexadecimal digits"
+    else (if is member (codes "update") then codes "an UPDATE without a fault of its frame or its parts, in pairs of hexadecimal digits; its attributes may have faults"
     else no_phrase))))))
 
 unfoldable pub edit_member : List ℕ → List ℕ

@@ -1,16 +1,41 @@
 //! Which members an object of a document may have, by the path of one of them.
 ghost use Rattle.std.specs.Prelude.{◌≡◌};
-ghost use Rattle.explanations.specs.Allowed.{allowed_at, listed_members, members_of};
+ghost use Rattle.explanations.specs.Allowed.{allowed_at, begins_in_form, first_member, listed_members, members_of};
 
 use crate::wanted::{NO_PHRASE, cut_at_point, member_name};
 
 /// The members of the object that a path leads into.
+#[tactic(auto, unfolding(crate::specs::Allowed::allowed_at))]
 pub(crate) fn allowed_at(path: &str) -> &'static str
     ensures { result.now ≡ allowed_at path.now }
 {
     let (front, _) = cut_at_point(path);
+    if !begins_in_form(front) {
+        return members_of("");
+    }
     let (_, parent) = cut_at_point(front);
     members_of(member_name(parent))
+}
+
+/// Whether a path begins with a member of the document in which there are objects, or has no point.
+#[tactic(auto, unfolding(crate::specs::Allowed::begins_in_form))]
+fn begins_in_form(path: &str) -> bool
+    ensures { result ≡ begins_in_form path.now }
+{
+    matches!(
+        first_member(path),
+        "" | "topology" | "configuration" | "packets" | "groups" | "events" | "steps"
+    )
+}
+
+/// The first member of a path, without the place of an item.
+fn first_member(path: &str) -> &str
+    ensures { result.now ≡ first_member path.now }
+{
+    match path.split_once('.') {
+        Some((first, _)) => member_name(first),
+        None => member_name(path),
+    }
 }
 
 /// The members of an object: of that which stands in a list of this name, or under it.

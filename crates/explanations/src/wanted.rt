@@ -292,7 +292,7 @@ fn event_member(member: &str) -> &'static str
         "opened" =>
             "an OPEN without a fault of its frame or its parts, in pairs of hexadecimal digits",
         "update" =>
-            "an UPDATE without a fault of its frame or its parts, in pairs of hexadecimal digits",
+            "an UPDATE without a fault of its frame or its parts, in pairs of hexadecimal digits; its attributes may have faults",
         _ => NO_PHRASE,
     }
 }

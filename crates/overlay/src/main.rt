@@ -20,6 +20,7 @@ use explanations::{
     Advice, Explanation, FrontSink, HeardSource, HelpText, KeptInput, UsageText, explain_form,
     explain_refusal, explain_stop, explain_words,
 };
+use hints::hint_on;
 use ov_io::{StdSink, StdSource};
 use std::alloc::Global;
 use std::env::Env;
@@ -141,6 +142,24 @@ fn say(rt: &HostRuntime, words: &[String], status: Status, front: &[u8], heard: 
     }
 }
 
+/// Says to people what the document has beside that, where it was answered or refused.
+fn say_more(rt: &HostRuntime, words: &[String], status: Status, front: &[u8], heard: &KeptInput) {
+    match status {
+        Status::Done | Status::BadDocument | Status::Refused => say_hint(rt, words, front, heard),
+        _ => {}
+    }
+}
+
+/// Says to people what the document has. A fault there changes nothing.
+fn say_hint(rt: &HostRuntime, words: &[String], front: &[u8], heard: &KeptInput) {
+    match words {
+        [word] => {
+            let _ = rt.eprint(hint_on(rt.alloc(), word.as_str(), front, heard));
+        }
+        _ => {}
+    }
+}
+
 /// Runs the top call over standard input and output, and says to people how it ended.
 fn run(rt: &HostRuntime, words: &[String]) -> Status {
     let kept = kept_for(rt.alloc(), words);
@@ -149,6 +168,7 @@ fn run(rt: &HostRuntime, words: &[String]) -> Status {
     let mut net = None;
     let status = overlay(rt.alloc(), words, &mut source, &mut sink, &mut net);
     say(rt, words, status, sink.front(), source.heard());
+    say_more(rt, words, status, sink.front(), source.heard());
     status
 }
 
