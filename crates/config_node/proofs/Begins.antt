@@ -2,10 +2,12 @@
 use Rattle.std.specs.Prelude.{◌≡◌, ◌<◌, ℕ, List, [], ◌∷◌, length, IsTrue, true, false}
 use Rattle.std.specs.FinMap.{empty}
 use Rattle.std.specs.List.{AllByRecursion, filter_map, slice_index_or, slice_set}
+use Rattle.std.specs.declared.option.Option.{Option}
 use Rattle.std.specs.declared.option.Option.TheVariants.{Some, None}
 use Rattle.std.proofs.Common.{refl, sym, ◌∙◌, ap, subst, set, arith}
 use Rattle.std.proofs.lemmas.List.{get_or-map, set-set}
 use Rattle.ov_sync.specs.Keyed.{after}
+use Rattle.ov_types.specs.declared.objects.LowKey.{LowKey}
 use Rattle.item_wire.specs.Happenings.{SessionFields}
 use Rattle.item_wire.specs.Inputs.{may_send}
 use Rattle.item_wire.specs.declared.event.ItemCause.{ItemCause}
@@ -31,12 +33,12 @@ pub none_of : (items : List Item) → AllByRecursion (λ (i : Item). IsTrue (may
 none_of [] all = refl
 none_of (i ∷ items) all = let no : false ≡ true = all.0 in cc
 
-module _ (x : Checked) (wants : Objects) (es : List FeedEnd) (are : AreEnds x wants es) (i : ℕ) (e : FeedEnd)
-    (lt : i < length es) (is : e ≡ slice_index_or es i e) where
+module _ (x : Checked) (wants : Objects) (changed : Option LowKey) (es : List FeedEnd)
+    (are : AreEnds x wants changed es) (i : ℕ) (e : FeedEnd) (lt : i < length es) (is : e ≡ slice_index_or es i e) where
   -- whom the session of an end is with
   pub whom_is : whom_at e ≡ controller (controller_at x i)
   whom_is =
-      let in_setup : i < length x.topology.controllers = omega (arith, lt, ends_long x wants es are) in
+      let in_setup : i < length x.topology.controllers = omega (arith, lt, ends_long x wants changed es are) in
       ap whom_at is ∙ sym (get_or-map whom_at es i e (whom_at e) lt)
       ∙ ap (λ (ws : List (List ℕ × ItemFrom)). slice_index_or ws i (whom_at e)) are.whose
       ∙ get_or-map controller x.topology.controllers i no_node (whom_at e) in_setup

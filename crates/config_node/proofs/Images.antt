@@ -1,11 +1,15 @@
 -- Low-level objects among the keys and values of all sessions.
-use Rattle.std.specs.Prelude.{◌≡◌, List, [], ◌∷◌, map}
-use Rattle.std.specs.FinMap.{FinMap, empty, from_entries, insert}
+use Rattle.std.specs.Prelude.{◌≡◌, List, [], ◌∷◌, cond, map}
+use Rattle.std.specs.declared.option.Option.{Option}
+use Rattle.std.specs.declared.option.Option.TheVariants.{Some, None}
+use Rattle.std.specs.FinMap.{FinMap, empty, from_entries, get, get-insert, get-remove, insert}
+use Rattle.std.specs.Option.{option_map}
+use Rattle.std.specs.Ordering.{eq_by_cmp}
 use Rattle.std.proofs.Common.{refl, sym, ◌∙◌, ap}
 use Rattle.ov_sync.specs.declared.Delta.{Delta}
-use Rattle.ov_sync.specs.declared.Delta.TheVariants.{Put}
+use Rattle.ov_sync.specs.declared.Delta.TheVariants.{Put, Drop}
 use Rattle.ov_sync.specs.Keyed as keyed
-use Rattle.ov_sync.specs.Keyed.{map_of}
+use Rattle.ov_sync.specs.Keyed.{map_of, set_key}
 use Rattle.ov_sync.specs.Embed.{embedded, moved_delta, moved_entry}
 use Rattle.ov_sync.proofs.Ascending.{entries-empty}
 use Rattle.ov_sync.proofs.EmbedLaws.{changed-embedded, difference-embedded}
@@ -45,3 +49,15 @@ pub low-entries : (es : Objects) → low_of es ≡ from_entries (map (moved_entr
 low-entries [] = low-empty
 low-entries (e ∷ es) =
     put (map_of low_order es) e.0 e.1 ∙ ap (λ (m : Map). insert m (Low e.0) (Object e.1)) (low-entries es)
+
+-- ---- one key set
+pub low-set : (m : FinMap low_order LowValue) (k : LowKey) (w : Option LowValue)
+    → embedded {S = key_cmp} Low Object (set_key m k w)
+    ≡ set_key (embedded {S = key_cmp} Low Object m) (Low k) (option_map Object w)
+low-set m k (Some v) = put m k v
+low-set m k None = sym (changed-embedded Low Object low_total key_total low_keeps low_exact key_exact m (Drop k))
+
+pub got_set : (m : FinMap low_order LowValue) (k : LowKey) (w : Option LowValue) (q : LowKey)
+    → get (set_key m k w) q ≡ cond (eq_by_cmp low_order q k) w (get m q)
+got_set m k None q = get-remove low_total m k q
+got_set m k (Some v) q = get-insert low_total m k v q

@@ -1,5 +1,5 @@
 -- What the control nodes are to be told: the low-level objects of what is valid.
-use Rattle.std.specs.Prelude.{◌≡◌, ◌≤◌, [], ◌&&◌, map, nat_le, length, IsTrue, None}
+use Rattle.std.specs.Prelude.{◌≡◌, ◌≤◌, ◌&&◌, map, nat_le, length, IsTrue, None}
 use Rattle.std.specs.List.{list_all}
 use Rattle.std.specs.FinMap.{from_entries}
 use Rattle.std.proofs.Common.{◌∙◌, ap}

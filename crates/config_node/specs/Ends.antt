@@ -1,10 +1,12 @@
 -- The ends of the configuration node's sessions, and what always holds of them.
-use Rattle.std.specs.Prelude.{◌≡◌, ◌≤◌, ℕ, List, [], map, length, true, false, refl}
+use Rattle.std.specs.Prelude.{◌≡◌, ◌≤◌, ℕ, List, [], ◌∷◌, map, length, true, false, refl}
+use Rattle.std.specs.declared.option.Option.{Option}
+use Rattle.std.specs.declared.option.Option.TheVariants.{Some, None}
 use Rattle.std.specs.Coded.{Coded, code_by, coded×, coded_list}
 use Rattle.std.specs.FinMap.{empty}
 use Rattle.std.specs.List.{AllByRecursion}
 use Rattle.ov_sync.specs.Embed.{embedded}
-use Rattle.ov_sync.specs.Keyed.{map_of}
+use Rattle.ov_sync.specs.Keyed.{AgreeBut, map_of}
 use Rattle.ov_types.specs.declared.objects.LowKey.{LowKey}
 use Rattle.ov_types.specs.declared.objects.LowValue.{LowValue}
 use Rattle.ov_types.specs.declared.rows.NodeId.{NodeId}
@@ -61,19 +63,26 @@ whom_at e = whom e.session
 abbrev pub controller : NodeId → List ℕ × ItemFrom
 controller n = (n.name, Nothing)
 
--- what was sent on a session can be told, and is what is wanted where the session counts as told
-abbrev pub HasSent : Objects → FeedEnd → Type 0
-HasSent wants e = AllFit (low_of e.sent) × (e.told ≡ true → e.sent ≡ wants)
+-- the key that changed since the last pass, where one alone did
+abbrev pub changed_keys : Option LowKey → List LowKey
+changed_keys None = []
+changed_keys (Some k) = k ∷ []
+
+-- what was sent on a session can be told. Where the session counts as told it is what is wanted, but for a key that changed
+abbrev pub HasSent : Objects → Option LowKey → FeedEnd → Type 0
+HasSent wants changed e =
+    AllFit (low_of e.sent)
+    × (e.told ≡ true → AgreeBut (changed_keys changed) (map_of low_order e.sent) (map_of low_order wants))
 
 -- a session with each control node, in their order. What is to be told are the low-level objects of what is valid, and
--- these and what was sent can be told. A session that counts as told was sent them
-pub record AreEnds (x : Checked) (wants : Objects) (ends : List FeedEnd) : Type 0 where
+-- these and what was sent can be told. A session that counts as told was sent them, but for a key that changed
+pub record AreEnds (x : Checked) (wants : Objects) (changed : Option LowKey) (ends : List FeedEnd) : Type 0 where
   pub some : 1 ≤ length x.topology.controllers
   pub few : length x.topology.controllers ≤ 8
   pub whose : map whom_at ends ≡ map controller x.topology.controllers
   pub wanted : low_of wants ≡ low_in x
   pub fits : AllFit (low_in x)
-  pub sent : AllByRecursion (HasSent wants) ends
+  pub sent : AllByRecursion (HasSent wants changed) ends
 
 -- ---- how they are told apart
 abbrev pub coded_ends : Coded Ends

@@ -5,5 +5,6 @@ pub mod Ends
 pub mod Planning
 pub mod Taking
 pub mod Setting
+pub mod Changing
 pub mod MachineModel
 pub mod ConfigCheck

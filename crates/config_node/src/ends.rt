@@ -8,8 +8,9 @@ ghost use Rattle.node_items.specs.Beginning.{phase_of};
 ghost use Rattle.config_node.specs.Core.{is_idle, nothings, sessions};
 ghost use Rattle.config_node.specs.Ends.{doubted, new_end};
 
+use crate::changing::next_change;
 use crate::planning::plan_all;
-use crate::wants::{Objects, wanted};
+use crate::wants::{Objects, want, wanted};
 use config_check::Valid;
 use item_wire::{ItemCause, ItemFrom, ItemSession, ItemState};
 use node_core::{EndState, Ends, Plan, Started};
@@ -24,7 +25,7 @@ use std::marker::Model;
 pub(crate) struct FeedEnd {
     pub(crate) session: ItemSession,
     pub(crate) sent: SyncOut<LowKey, LowValue>,
-    /// Whether it was told all: what was sent is what is wanted. Nothing is compared then.
+    /// Whether it was told all: what was sent is what is wanted, but for the key that changed. No other is compared then.
     pub(crate) told: bool,
 }
 
@@ -52,6 +53,8 @@ impl FeedEnd {
 pub(crate) struct ConfigEnds {
     pub(crate) valid: Valid,
     pub(crate) wants: Objects,
+    /// The key of which what is wanted changed since the last pass, where one alone did.
+    pub(crate) changed: Option<LowKey>,
     pub(crate) ends: Vec<FeedEnd>,
     pub(crate) alloc: Global,
 }
@@ -65,7 +68,7 @@ impl Model for ConfigEnds {
 
     ghost view = { λ e. record { setup = e.valid; posts = posts_of e.ends.items } };
 
-    ghost invariant = { λ e. AreEnds e.valid e.wants.entries e.ends.items };
+    ghost invariant = { λ e. AreEnds e.valid e.wants.entries e.changed e.ends.items };
 }
 
 impl Ends for ConfigEnds {
@@ -110,7 +113,8 @@ impl Ends for ConfigEnds {
     }
 
     fn plan(&mut self) -> Result<Vec<Plan>, NoMemory> {
-        let plans = plan_all(self.alloc, &mut self.ends, &self.wants)?;
+        let plans = plan_all(self.alloc, &mut self.ends, &self.wants, &self.changed)?;
+        self.changed = None;
         Ok(plans)
     }
 
@@ -162,6 +166,7 @@ impl ConfigEnds {
         Ok(ConfigEnds {
             valid,
             wants,
+            changed: None,
             ends,
             alloc,
         })
@@ -178,8 +183,8 @@ impl ConfigEnds {
         &self.valid
     }
 
-    /// Sets what is valid. Each session may have to be told something then.
-    pub(crate) fn set_valid(&mut self, valid: Valid) -> Result<(), NoMemory>
+    /// Sets what is valid, and compiles what follows from it. Each session may have to be told something then.
+    fn set_whole(&mut self, valid: Valid) -> Result<(), NoMemory>
         requires same { valid.topology.controllers ≡ self.old.setup.topology.controllers }
         ensures setup { IfOk result (λ _. self.new.setup ≡ valid) }
         ensures posts { self.new.posts ≡ self.old.posts }
@@ -188,7 +193,26 @@ impl ConfigEnds {
         let wants = wanted(self.alloc, &valid)?;
         self.valid = valid;
         self.wants = wants;
+        self.changed = None;
         doubt_all(&mut self.ends);
         Ok(())
+    }
+
+    /// Sets what is valid. Where one object alone changes, each session is to be told of its key alone then.
+    pub(crate) fn set_valid(&mut self, valid: Valid) -> Result<(), NoMemory>
+        requires same { valid.topology.controllers ≡ self.old.setup.topology.controllers }
+        ensures setup { IfOk result (λ _. self.new.setup ≡ valid) }
+        ensures posts { self.new.posts ≡ self.old.posts }
+        ensures err { OnErr result (self.new ≡ self.old) }
+    {
+        match next_change(&self.changed, &self.valid, &valid) {
+            Some((key, value)) => {
+                want(&mut self.wants, key, value)?;
+                self.changed = Some(key);
+                self.valid = valid;
+                Ok(())
+            }
+            None => self.set_whole(valid),
+        }
     }
 }

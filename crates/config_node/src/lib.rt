@@ -2,6 +2,7 @@
 #![tactic(auto)]
 
 mod begin;
+mod changing;
 mod ends;
 mod node;
 mod planning;

@@ -8,4 +8,7 @@ pub mod Few
 pub mod Entries
 pub mod Each
 pub mod Law
+pub mod Between
+pub mod OtherPorts
+pub mod Ports
 pub mod MachineModel

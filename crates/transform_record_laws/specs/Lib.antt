@@ -1,1 +1,2 @@
 pub mod MachineModel
+pub mod Ports

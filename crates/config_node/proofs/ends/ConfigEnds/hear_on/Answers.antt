@@ -11,10 +11,10 @@ pub hear_at-requires : goal.hear_at-requires
 hear_at-requires c =
     let es = c.self.inside.ends.items in
     let controllers = ap (λ (s : Ends). length s.setup.topology.controllers) c.self.view_is in
-    let long = ends_long c.self.inside.valid c.self.inside.wants.entries es c.self.invariant in
+    let long = ends_long c.self.inside.valid c.self.inside.wants.entries c.self.inside.changed es c.self.invariant in
     let lt : c.from.result < length es = omega (arith, long, controllers, c.requires.known, c.from.ensures) in
     record {
-      from = λ i. (whom_is c.self.inside.valid c.self.inside.wants.entries es c.self.invariant c.from.result
+      from = λ i. (whom_is c.self.inside.valid c.self.inside.wants.entries c.self.inside.changed es c.self.invariant c.from.result
           c.index_mut-end.result.now lt c.index_mut-end.ensures.value i).1;
     }
 
@@ -23,11 +23,11 @@ invariant_of-self c =
     let es = c.self.inside.ends.items in
     let e = c.index_mut-end.result.now in
     let controllers = ap (λ (s : Ends). length s.setup.topology.controllers) c.self.view_is in
-    let long = ends_long c.self.inside.valid c.self.inside.wants.entries es c.self.invariant in
+    let long = ends_long c.self.inside.valid c.self.inside.wants.entries c.self.inside.changed es c.self.invariant in
     let lt : c.from.result < length es = omega (arith, long, controllers, c.requires.known, c.from.ensures) in
-    ends_set c.self.inside.valid c.self.inside.wants.entries es c.from.result _ e c.self.invariant
+    ends_set c.self.inside.valid c.self.inside.wants.entries c.self.inside.changed es c.from.result _ e c.self.invariant
     (c.hear_at.ensures.whom ∙ ap whom_at c.index_mut-end.ensures.value)
-    (sent_there c.self.inside.valid c.self.inside.wants.entries es c.self.invariant c.from.result e lt
+    (sent_there c.self.inside.valid c.self.inside.wants.entries c.self.inside.changed es c.self.invariant c.from.result e lt
     c.index_mut-end.ensures.value)
 
 pub invariant_of-self-in-None : goal.invariant_of-self-in-None
@@ -35,11 +35,11 @@ invariant_of-self-in-None c =
     let es = c.self.inside.ends.items in
     let e = c.index_mut-end.result.now in
     let controllers = ap (λ (s : Ends). length s.setup.topology.controllers) c.self.view_is in
-    let long = ends_long c.self.inside.valid c.self.inside.wants.entries es c.self.invariant in
+    let long = ends_long c.self.inside.valid c.self.inside.wants.entries c.self.inside.changed es c.self.invariant in
     let lt : c.from.result < length es = omega (arith, long, controllers, c.requires.known, c.from.ensures) in
-    ends_set c.self.inside.valid c.self.inside.wants.entries es c.from.result _ e c.self.invariant
+    ends_set c.self.inside.valid c.self.inside.wants.entries c.self.inside.changed es c.from.result _ e c.self.invariant
     (c.hear_at.ensures.whom ∙ ap whom_at c.index_mut-end.ensures.value)
-    (sent_there c.self.inside.valid c.self.inside.wants.entries es c.self.invariant c.from.result e lt
+    (sent_there c.self.inside.valid c.self.inside.wants.entries c.self.inside.changed es c.self.invariant c.from.result e lt
     c.index_mut-end.ensures.value)
 
 pub invariant_of-self-in-Some : goal.invariant_of-self-in-Some
@@ -47,11 +47,11 @@ invariant_of-self-in-Some c =
     let es = c.self.inside.ends.items in
     let e = c.index_mut-end.result.now in
     let controllers = ap (λ (s : Ends). length s.setup.topology.controllers) c.self.view_is in
-    let long = ends_long c.self.inside.valid c.self.inside.wants.entries es c.self.invariant in
+    let long = ends_long c.self.inside.valid c.self.inside.wants.entries c.self.inside.changed es c.self.invariant in
     let lt : c.from.result < length es = omega (arith, long, controllers, c.requires.known, c.from.ensures) in
-    ends_set c.self.inside.valid c.self.inside.wants.entries es c.from.result _ e c.self.invariant
+    ends_set c.self.inside.valid c.self.inside.wants.entries c.self.inside.changed es c.from.result _ e c.self.invariant
     (c.hear_at.ensures.whom ∙ ap whom_at c.index_mut-end.ensures.value)
-    (sent_there c.self.inside.valid c.self.inside.wants.entries es c.self.invariant c.from.result e lt
+    (sent_there c.self.inside.valid c.self.inside.wants.entries c.self.inside.changed es c.self.invariant c.from.result e lt
     c.index_mut-end.ensures.value)
 
 pub returns-in-None-clause-heard : goal.returns-in-None-clause-heard
@@ -60,11 +60,11 @@ returns-in-None-clause-heard c =
     let e = c.index_mut-end.result.now in
     let e' : FeedEnd = record { session = c.hear_at.new.session; sent = e.sent; told = e.told } in
     let controllers = ap (λ (s : Ends). length s.setup.topology.controllers) c.self.view_is in
-    let long = ends_long c.self.inside.valid c.self.inside.wants.entries es c.self.invariant in
+    let long = ends_long c.self.inside.valid c.self.inside.wants.entries c.self.inside.changed es c.self.invariant in
     let lt : c.from.result < length es = omega (arith, long, controllers, c.requires.known, c.from.ensures) in
     let left = drop c.in_ok-taken.field-0.taken c.args.bytes.now in
     let heard = rw c.in-None.is at c.in_ok-taken.ensures.heard in
-    let taken = taken_on c.self.inside.valid c.self.inside.wants.entries es c.self.invariant c.from.result e lt
+    let taken = taken_on c.self.inside.valid c.self.inside.wants.entries c.self.inside.changed es c.self.invariant c.from.result e lt
     c.index_mut-end.ensures.value c.args.bytes.now left c.hear_at.new.session heard in
     subst (λ (n : ℕ). HasTaken c.args.self.now.setup n c.args.bytes.now left c.args.self.now.posts
     (posts_of (slice_set es c.from.result e')) None) c.from.ensures
@@ -77,13 +77,13 @@ returns-in-Some-clause-heard c =
     let e = c.index_mut-end.result.now in
     let e' : FeedEnd = record { session = c.hear_at.new.session; sent = e.sent; told = e.told } in
     let controllers = ap (λ (s : Ends). length s.setup.topology.controllers) c.self.view_is in
-    let long = ends_long c.self.inside.valid c.self.inside.wants.entries es c.self.invariant in
+    let long = ends_long c.self.inside.valid c.self.inside.wants.entries c.self.inside.changed es c.self.invariant in
     let lt : c.from.result < length es = omega (arith, long, controllers, c.requires.known, c.from.ensures) in
     let left = drop c.in_ok-taken.field-0.taken c.args.bytes.now in
     let heard = rw c.in-Some.is at c.in_ok-taken.ensures.heard in
     let closed = c.close.ensures.closed
     ∙ ap (λ (n : ℕ). slice_set (posts_of (slice_set es c.from.result e')) n nothing) (sym c.from.ensures) in
-    let taken = taken_down c.self.inside.valid c.self.inside.wants.entries es c.self.invariant c.from.result e lt
+    let taken = taken_down c.self.inside.valid c.self.inside.wants.entries c.self.inside.changed es c.self.invariant c.from.result e lt
     c.index_mut-end.ensures.value c.args.bytes.now left c.hear_at.new.session c.in-Some.cause c.close.new.self.posts heard
     closed in
     subst (λ (n : ℕ). HasTaken c.args.self.now.setup n c.args.bytes.now left c.args.self.now.posts c.close.new.self.posts

@@ -1,4 +1,4 @@
-use Rattle.std.proofs.Common.{◌≡◌, map, ap, ◌∙◌, sym, subst}
+use Rattle.std.proofs.Common.{◌≡◌, None, map, ap, ◌∙◌, sym, subst}
 use Rattle.config_types.specs.declared.topology.Topology.{Topology}
 use Rattle.config_check.specs.Checked.{Checked}
 use Rattle.config_node.specs.Ends.{AreEnds, new_end, posts_of}
@@ -13,7 +13,7 @@ invariant_of-result c =
     let made : c.in_ok-ends.ends.items ≡ map new_end x.topology.controllers =
     c.in_ok-ends.ensures
     ∙ ap (map new_end) (c.as_slice.ensures ∙ ap (λ (t : Topology). t.controllers) e.part) in
-    subst (AreEnds x c.in_ok-wants.wants.entries) (sym made)
+    subst (AreEnds x c.in_ok-wants.wants.entries None) (sym made)
     (fresh_ends x c.in_ok-wants.wants.entries (some x.topology e.topology_form) (few x.topology x.config e.valid)
     c.in_ok-wants.ensures.wanted c.in_ok-wants.ensures.fits)
 

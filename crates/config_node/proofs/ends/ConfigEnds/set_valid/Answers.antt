@@ -1,30 +1,16 @@
-use Rattle.std.proofs.Common.{◌≡◌, length, map, subst, sym, ap, ◌∙◌}
-use Rattle.config_check.specs.Checked.{Checked}
-use Rattle.config_node.specs.Ends.{AreEnds, Ends, doubted, posts_of}
-use Rattle.config_node.proofs.Posts.{doubted_posts, ends_doubted}
-use Rattle.node_core.proofs.Lists.{written}
+use Rattle.std.proofs.Common.{Option, ◌∙◌, ap, subst, sym}
+use Rattle.ov_types.specs.declared.objects.LowKey.{LowKey}
+use Rattle.config_node.specs.Ends.{AreEnds, Ends}
+use Rattle.config_node.proofs.Posts.{ends_changed}
 use Rattle.config_node.proofs.ends.ConfigEnds.set_valid.Goals as goal
 
-pub invariant_of-self : goal.invariant_of-self
-invariant_of-self c =
+pub invariant_of-self-in-Some : goal.invariant_of-self-in-Some
+invariant_of-self-in-Some c =
+    let x = c.self.inside.valid in
+    let wants = c.self.inside.wants.entries in
     let es = c.self.inside.ends.items in
-    let new = c.doubt_all.new.ends in
-    let y : Checked = c.args.valid in
-    let made = c.in_ok-wants in
-    let long : length new ≡ c.self.inside.ends.len =
-    c.doubt_all.auto.ends ∙ ap length c.deref_mut.ensures.value ∙ sym c.self.inside.ends.ok.0 in
-    let now : new ≡ map doubted es = c.doubt_all.ensures ∙ ap (map doubted) c.deref_mut.ensures.value in
-    subst (AreEnds y made.wants.entries) (sym (written c.self.inside.ends.len new es long ∙ now))
-    (ends_doubted c.self.inside.valid y c.self.inside.wants.entries made.wants.entries es c.self.invariant
+    let change = c.in-Some.ensures.change in
+    ends_changed x c.args.valid wants c.want.new.wants.entries c.in-Some.key c.in-Some.value es
+    (subst (λ (o : Option LowKey). AreEnds x wants o es) c.in-Some.ensures.told c.self.invariant)
     (c.requires.same ∙ sym (ap (λ (e : Ends). e.setup.topology.controllers) c.self.view_is))
-    made.ensures.wanted made.ensures.fits)
-
-pub returns-clause-posts : goal.returns-clause-posts
-returns-clause-posts c =
-    let es = c.self.inside.ends.items in
-    let new = c.doubt_all.new.ends in
-    let long : length new ≡ c.self.inside.ends.len =
-    c.doubt_all.auto.ends ∙ ap length c.deref_mut.ensures.value ∙ sym c.self.inside.ends.ok.0 in
-    let now : new ≡ map doubted es = c.doubt_all.ensures ∙ ap (map doubted) c.deref_mut.ensures.value in
-    ap posts_of (written c.self.inside.ends.len new es long ∙ now) ∙ doubted_posts es
-    ∙ ap (λ (e : Ends). e.posts) c.self.view_is
+    c.in_ok-want-in-Some.ensures.ok change.change change.fits

@@ -8,9 +8,9 @@ pub invariant_of-self : goal.invariant_of-self
 invariant_of-self c =
     let new = c.shut.new.self in
     let same : whom_at new ≡ whom_at c.index_mut.result.now = ap whom c.shut.ensures.session in
-    ends_set c.self.inside.valid c.self.inside.wants.entries c.self.inside.ends.items c.from.result new
+    ends_set c.self.inside.valid c.self.inside.wants.entries c.self.inside.changed c.self.inside.ends.items c.from.result new
     c.index_mut.result.now c.self.invariant (same ∙ ap whom_at c.index_mut.ensures.value)
-    (nothing_sent c.self.inside.wants.entries new c.shut.ensures.sent c.shut.ensures.told)
+    (nothing_sent c.self.inside.wants.entries c.self.inside.changed new c.shut.ensures.sent c.shut.ensures.told)
 
 pub returns-clause-closed : goal.returns-clause-closed
 returns-clause-closed c =
