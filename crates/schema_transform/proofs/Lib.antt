@@ -8,3 +8,6 @@ pub mod Small
 pub mod Forwarding
 pub mod ByNumber
 pub mod Homes
+pub mod ByAttached
+pub mod Nodes
+pub mod Keeping
