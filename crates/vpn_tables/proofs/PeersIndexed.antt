@@ -1,5 +1,5 @@
 -- What peers told, place by place, after a change.
-use Rattle.std.specs.Prelude.{◌≡◌, ◌<◌, ◌-◌, ◌==◌, ℕ, zero, suc, List, [], ◌∷◌, Bool, true, false, cond, Some, None}
+use Rattle.std.specs.Prelude.{◌≡◌, ◌<◌, ◌-◌, ◌==◌, ℕ, zero, suc, List, [], ◌∷◌, true, false, cond, Some, None}
 use Rattle.std.specs.declared.option.Option.{Option}
 use Rattle.std.specs.Option.{option_map}
 use Rattle.std.specs.FinMap.{empty, get, get-empty, get-insert, get-remove}
@@ -17,7 +17,7 @@ use Rattle.ov_types.specs.declared.vpn.VpnRoute.{VpnRoute}
 use Rattle.path_select.specs.NodeModel.Keys.{Key, Low, Vpn, Row, Publish, Subscribe, key_cmp}
 use Rattle.path_select.specs.NodeModel.Maps.{Change, Map}
 use Rattle.path_select.specs.NodeModel.Paths.{Holdings}
-use Rattle.path_select.specs.NodeModel.Values.{Route, Value}
+use Rattle.path_select.specs.NodeModel.Values.{Route}
 use Rattle.path_select.proofs.NodeModel.Orders.{key_exact, key_total}
 use Rattle.vpn_tables.specs.Changes.{changed_at, emptied_at, without}
 use Rattle.vpn_tables.specs.Moved.{map_at}

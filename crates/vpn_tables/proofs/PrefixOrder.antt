@@ -1,5 +1,5 @@
 -- The orders of places tell them apart, and between two places stands what has the prefix.
-use Rattle.std.specs.Prelude.{◌≡◌, ◌<◌, ℕ, ◌+◌, ◌-◌, ◌==◌, nat_le, Bool, true, false, not, ◌&&◌}
+use Rattle.std.specs.Prelude.{◌≡◌, ◌<◌, ℕ, ◌+◌, ◌-◌, ◌==◌, nat_le, Bool, true, not, ◌&&◌}
 use Rattle.std.specs.declared.cmp.Ordering.{Ordering}
 use Rattle.std.specs.declared.cmp.Ordering.TheVariants.{Less, Equal, Greater}
 use Rattle.std.specs.declared.ops.Bound.TheVariants.{Included, Excluded, Unbounded}
@@ -9,7 +9,7 @@ use Rattle.std.specs.FinMap.{nat_cmp-IsAntisymmetric}
 use Rattle.std.specs.Cmp.{IsTotalOrder, nat_cmp_total, on_total, then_total, tied_itself}
 use Rattle.std.proofs.lemmas.Bool.Decides.{nat_tests}
 use Rattle.std.proofs.lemmas.Nat.{pow_pos}
-use Rattle.std.proofs.Common.{refl, sym, ◌∙◌, ap, arith, rules}
+use Rattle.std.proofs.Common.{refl, sym, ◌∙◌, arith}
 use Rattle.ov_types.specs.Prefix.{Block, size_of}
 use Rattle.ov_types.specs.declared.prefix.Addr.{Addr}
 use Rattle.vpn_tables.specs.Indexed.{is_label_to, is_label_within, is_route_to, is_route_within, label_order, route_order}

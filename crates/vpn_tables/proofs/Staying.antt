@@ -1,5 +1,5 @@
 -- What is kept at each place, after one place was changed.
-use Rattle.std.specs.Prelude.{◌≡◌, Bool, true, false, cond, Some}
+use Rattle.std.specs.Prelude.{◌≡◌, true, false, cond, Some}
 use Rattle.std.specs.declared.cmp.Ordering.{Ordering}
 use Rattle.std.specs.declared.cmp.Ordering.TheVariants.{Equal}
 use Rattle.std.specs.declared.option.Option.{Option}

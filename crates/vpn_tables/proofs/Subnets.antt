@@ -5,7 +5,7 @@ use Rattle.std.specs.BTreeMap.{BTreeMap, IsOrdered}
 use Rattle.std.specs.List.{filter, filter_map, list_any}
 use Rattle.std.proofs.lemmas.Bool.{eqb-true, true≢false}
 use Rattle.std.proofs.lemmas.Bool.Decides.{nat_tests}
-use Rattle.std.proofs.Common.{refl, sym, ◌∙◌, ap, subst, inl, inr, arith}
+use Rattle.std.proofs.Common.{refl, sym, ◌∙◌, ap, inl, inr, arith}
 use Rattle.ov_types.specs.Prefix.{Block, is_inside}
 use Rattle.ov_types.specs.declared.numbers.InstanceId.{InstanceId}
 use Rattle.ov_types.specs.declared.targets.Target.{Target}
@@ -14,7 +14,7 @@ use Rattle.path_select.specs.NodeModel.Paths as model
 use Rattle.path_select.specs.NodeModel.Paths.{Holdings, received}
 use Rattle.path_select.specs.NodeModel.Reaching.{has_path_within}
 use Rattle.path_select.specs.NodeModel.Tables.{of_prefix, same_prefix}
-use Rattle.path_select.proofs.NodeModel.Members.{any_in, from_any, from_filter, from_filter_map, from_map, iff_same, in_either, in_filter, in_filter_map, in_left, in_map, in_right, none_some}
+use Rattle.path_select.proofs.NodeModel.Members.{any_in, from_any, from_filter, from_filter_map, from_map, iff_same, in_either, in_filter, in_filter_map, in_left, in_map, in_right}
 use Rattle.path_select.proofs.NodeModel.Orders.{prefix_same, same_prefix-from}
 use Rattle.path_select.specs.declared.selection.Path.{Path}
 use Rattle.path_select.specs.Selection.{plain}

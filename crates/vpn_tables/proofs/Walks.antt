@@ -1,8 +1,7 @@
 -- The paths that are walked over, from the typed entries.
-use Rattle.std.specs.Prelude.{◌≡◌, ◌<◌, ℕ, suc, ◌+◌, length, drop, List, [], ◌∷◌, ◌++◌, map, Bool, true, false, cond, ◌||◌}
+use Rattle.std.specs.Prelude.{◌≡◌, ◌<◌, ℕ, suc, ◌+◌, length, drop, List, [], ◌∷◌, ◌++◌, map}
 use Rattle.std.specs.declared.option.Option.{Option}
-use Rattle.std.specs.declared.option.Option.TheVariants.{Some, None}
-use Rattle.std.specs.List.{list_any, filter, filter_map, cons_option, flat_map, enumerate_from}
+use Rattle.std.specs.List.{filter_map, cons_option, flat_map, enumerate_from}
 use Rattle.std.specs.List.Sorted.{IsStrictlySortedBy}
 use Rattle.std.specs.FinMap.{entries}
 use Rattle.std.proofs.Math.Seq.{drop-cons}
@@ -15,7 +14,7 @@ use Rattle.ov_types.specs.declared.vpn.VpnRoute.{VpnRoute}
 use Rattle.path_select.specs.NodeModel.Keys.{Key, Vpn, of_up}
 use Rattle.path_select.specs.NodeModel.Values.{Value, Route, Label}
 use Rattle.path_select.specs.NodeModel.Maps.{Map}
-use Rattle.path_select.specs.NodeModel.Paths.{Holdings, Told, Path, own_path, peer_path, own_paths, peer_paths, has_target}
+use Rattle.path_select.specs.NodeModel.Paths.{Holdings, Told, Path, own_path, peer_path}
 use Rattle.vpn_tables.specs.declared.tables.Agent.{Agent}
 use Rattle.vpn_tables.specs.Views.{agent_of, peer_of, up_order, vpn_order}
 use Rattle.vpn_tables.proofs.Images.{told-entries, peer-entries}

@@ -20,7 +20,6 @@ use Rattle.ov_types.specs.declared.vpn.VpnRoute.{VpnRoute}
 use Rattle.route_targets.specs.Numbers.{distinguisher_of, target_of}
 use Rattle.path_select.specs.NodeModel.Keys.{Publish, Vpn, of_up}
 use Rattle.path_select.specs.NodeModel.Maps.{Map, as_label}
-use Rattle.path_select.specs.NodeModel.Paths as model
 use Rattle.path_select.specs.NodeModel.Paths.{Holdings, Told, received}
 use Rattle.path_select.specs.NodeModel.Tables.{of_prefix}
 use Rattle.path_select.specs.NodeModel.Uses.{imports, is_known}

@@ -1,4 +1,4 @@
-use Rattle.std.proofs.Common.{List, ap, sym, ◌∙◌, map}
+use Rattle.std.proofs.Common.{List, ap, ◌∙◌, map}
 use Rattle.std.specs.Prelude.{None}
 use Rattle.ov_sync.specs.declared.Delta.TheVariants.{Drop}
 use Rattle.path_select.specs.NodeModel.Paths.{Told}

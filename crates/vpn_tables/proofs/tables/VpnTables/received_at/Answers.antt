@@ -1,10 +1,6 @@
-use Rattle.std.proofs.Common.{map, subst}
-use Rattle.std.specs.Prelude.{◌↔◌}
-use Rattle.path_select.specs.NodeModel.Members.{Member}
+use Rattle.std.proofs.Common.{subst}
 use Rattle.path_select.specs.NodeModel.Paths.{Holdings}
-use Rattle.path_select.specs.declared.selection.Path.{Path}
-use Rattle.vpn_tables.specs.contracts.tables.VpnTables.{the_view}
-use Rattle.vpn_tables.specs.Indexed.{AreInOrder, AreLabels, AreRoutes, received_at}
+use Rattle.vpn_tables.specs.Indexed.{AreInOrder, AreLabels, AreRoutes}
 use Rattle.vpn_tables.proofs.PathsReceived.{all_gathered}
 use Rattle.vpn_tables.proofs.tables.VpnTables.received_at.Goals as goal
 

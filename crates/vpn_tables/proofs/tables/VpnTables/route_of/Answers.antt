@@ -1,4 +1,4 @@
-use Rattle.std.proofs.Common.{Some, None, ◌<◌, ◌-◌, ap, sym, ◌∙◌, map, arith}
+use Rattle.std.proofs.Common.{Some, ◌<◌, ◌-◌, ap, sym, ◌∙◌, map, arith}
 use Rattle.std.specs.List.{slice_get}
 use Rattle.std.specs.FinMap.{get, get-empty}
 use Rattle.std.proofs.lemmas.Option.{slice_get-get_or}
