@@ -6,6 +6,7 @@ pub mod Agents
 pub mod Seating
 pub mod Within
 pub mod Walks
+pub mod Imported
 pub mod Selected
 pub mod Offers
 pub mod Whole

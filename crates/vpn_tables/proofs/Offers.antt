@@ -1,6 +1,8 @@
 -- What is offered, part by part.
 use Rattle.std.specs.Prelude.{◌≡◌, ℕ, suc, ◌+◌, ◌<◌, length, drop, map, List, [], ◌∷◌, ◌++◌, Bool, true, false, cond}
-use Rattle.std.specs.List.{filter, flat_map}
+use Rattle.std.specs.declared.option.Option.{Option}
+use Rattle.std.specs.declared.option.Option.TheVariants.{Some, None}
+use Rattle.std.specs.List.{cons_option, filter, flat_map}
 use Rattle.std.specs.FinMap.{FinMap}
 use Rattle.std.proofs.Math.Seq.{drop-cons}
 use Rattle.std.proofs.Common.{refl, sym, ◌∙◌, ap, get_or}
@@ -34,3 +36,9 @@ pub agents_turn : (h : Holdings) (items : List Agent) (k : ℕ) (a : Agent) → 
 agents_turn h items k a lt e =
     ap (λ (l : List Agent). flat_map (own_of h) (map agent_of l)) (drop-cons items k a lt ∙ ap (λ (b : Agent). b ∷ drop (suc k) items) (sym e))
     ∙ (λ i. own_of h (agent_of a) ++ flat_map (own_of h) (map agent_of (drop (next_place k i) items)))
+
+-- what is offered of one path that there may be, and then of those that are left
+pub offer-turn : (p : Path → Bool) (m n : FinMap prefix_order Plain) (o : Option Path) (ys : List Path)
+    → n ≡ offer_all m (filter p (cons_option o [])) → offer_all n (filter p ys) ≡ offer_all m (filter p (cons_option o ys))
+offer-turn p m n None ys e = offer-parts p m n [] ys e
+offer-turn p m n (Some x) ys e = offer-parts p m n (x ∷ []) ys e

@@ -12,6 +12,7 @@ pub mod Least
 pub mod Leading
 pub mod Listing
 pub mod At
+pub mod Imported
 pub mod Moved
 pub mod Touched
 pub mod TouchedKeys

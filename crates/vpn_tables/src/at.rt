@@ -11,11 +11,13 @@ ghost use Rattle.path_select.specs.NodeModel.Tables.{same_prefix};
 ghost use Rattle.path_select.specs.NodeModel.Values.{Label as LabelOf, Route as RouteOf};
 ghost use Rattle.path_select.specs.declared.selection.Path.{Path as PathOf};
 ghost use Rattle.path_select.specs.Selection.{plain};
-ghost use Rattle.vpn_tables.specs.At.{IsChosen, is_wanted_at, led_at, led_from, paths_at, publishes_to, row_at, shown};
+ghost use Rattle.vpn_tables.specs.At.{IsChosen, led_at, led_from, paths_at, publishes_to, row_at, shown};
+ghost use Rattle.vpn_tables.specs.Imported.{is_imported_at};
 ghost use Rattle.vpn_tables.specs.Routes.{path_of};
 ghost use Rattle.vpn_tables.specs.Views.{agent_of, peer_of};
 
 use crate::chains::Side;
+use crate::imports::Imports;
 use crate::reaching::is_among;
 use crate::routes::{Route, is_same};
 use crate::tables::{Agent, VpnTables};
@@ -85,8 +87,9 @@ impl VpnTables {
             → Member p paths.items ↔ Member p (paths_at self.now i prefix.now)) }
     {
         let mut paths = Vec::new(self.alloc);
-        self.push_agents(&mut paths, i, prefix)?;
-        self.push_peers(&mut paths, i, prefix)?;
+        let imports = self.imported(i);
+        self.push_agents(&mut paths, &imports, prefix)?;
+        self.push_peers(&mut paths, &imports, prefix)?;
         self.push_led(&mut paths, i, prefix, true)?;
         self.push_led(&mut paths, i, prefix, false)?;
         Ok(paths)
@@ -95,14 +98,14 @@ impl VpnTables {
     fn push_agents(
         &self,
         paths: &mut Vec<Path>,
-        i: InstanceId,
+        imports: &Imports<'_>,
         prefix: &Prefix,
     ) -> Result<(), NoMemory>
         ensures { OnOk result (paths.new.items ≡ paths.old.items
-            ++ map plain (filter (is_wanted_at self.now i prefix.now) (own_paths self.now))) }
+            ++ map plain (filter (is_imported_at imports.now prefix.now) (own_paths self.now))) }
     {
         for agent in &self.agents {
-            self.push_agent(paths, agent, i, prefix)?;
+            self.push_agent(paths, agent, imports, prefix)?;
         }
         Ok(())
     }
@@ -111,15 +114,15 @@ impl VpnTables {
         &self,
         paths: &mut Vec<Path>,
         agent: &Agent,
-        i: InstanceId,
+        imports: &Imports<'_>,
         prefix: &Prefix,
     ) -> Result<(), NoMemory>
         ensures { OnOk result (paths.new.items ≡ paths.old.items
-            ++ map plain (filter (is_wanted_at self.now i prefix.now)
+            ++ map plain (filter (is_imported_at imports.now prefix.now)
             (filter_map (λ e. own_path self.now (agent_of agent.now) e.0 e.1) (entries (agent_of agent.now).map)))) }
     {
         for (key, label) in agent.told.iter() {
-            let path = self.own_at(agent, key, *label, i, prefix);
+            let path = self.own_at(agent, key, *label, imports, prefix);
             keep(paths, path)?;
         }
         Ok(())
@@ -131,17 +134,17 @@ impl VpnTables {
         agent: &Agent,
         key: &UpKey,
         label: Label,
-        i: InstanceId,
+        imports: &Imports<'_>,
         prefix: &Prefix,
     ) -> Option<Path>
-        ensures { cons_option result [] ≡ map plain (filter (is_wanted_at self.now i prefix.now)
+        ensures { cons_option result [] ≡ map plain (filter (is_imported_at imports.now prefix.now)
             (cons_option (own_path self.now (agent_of agent.now) (of_up key.now) (LabelOf label)) [])) }
     {
         if !is_to(key, prefix) {
             return None;
         }
         let route = self.own_route(agent, key, label)?;
-        if !self.imports_any(i, &[route.target]) {
+        if !imports.has(route.target) {
             return None;
         }
         Some(route.path)
@@ -150,14 +153,14 @@ impl VpnTables {
     fn push_peers(
         &self,
         paths: &mut Vec<Path>,
-        i: InstanceId,
+        imports: &Imports<'_>,
         prefix: &Prefix,
     ) -> Result<(), NoMemory>
         ensures { OnOk result (paths.new.items ≡ paths.old.items
-            ++ map plain (filter (is_wanted_at self.now i prefix.now) (peer_paths self.now))) }
+            ++ map plain (filter (is_imported_at imports.now prefix.now) (peer_paths self.now))) }
     {
         for (place, routes) in self.peers.iter().enumerate() {
-            self.push_peer(paths, 1 + place as u16, routes, i, prefix)?;
+            self.push_peer(paths, 1 + place as u16, routes, imports, prefix)?;
         }
         Ok(())
     }
@@ -167,15 +170,15 @@ impl VpnTables {
         paths: &mut Vec<Path>,
         session: u16,
         routes: &SyncIn<VpnKey, VpnRoute>,
-        i: InstanceId,
+        imports: &Imports<'_>,
         prefix: &Prefix,
     ) -> Result<(), NoMemory>
         ensures { OnOk result (paths.new.items ≡ paths.old.items
-            ++ map plain (filter (is_wanted_at self.now i prefix.now)
+            ++ map plain (filter (is_imported_at imports.now prefix.now)
             (filter_map (λ e. peer_path session e.0 e.1) (entries (peer_of routes.now))))) }
     {
         for (key, route) in routes.iter() {
-            let path = self.told_at(session, key, route, i, prefix);
+            let path = self.told_at(session, key, route, imports, prefix);
             keep(paths, path)?;
         }
         Ok(())
@@ -187,16 +190,16 @@ impl VpnTables {
         session: u16,
         key: &VpnKey,
         route: &VpnRoute,
-        i: InstanceId,
+        imports: &Imports<'_>,
         prefix: &Prefix,
     ) -> Option<Path>
-        ensures { cons_option result [] ≡ map plain (filter (is_wanted_at self.now i prefix.now)
+        ensures { cons_option result [] ≡ map plain (filter (is_imported_at imports.now prefix.now)
             (cons_option (peer_path session (Vpn key.now) (RouteOf route.now)) [])) }
     {
         if !is_same(&key.prefix, prefix) {
             return None;
         }
-        if !self.imports_any(i, route.targets.items()) {
+        if !imports.has_any(route.targets.items()) {
             return None;
         }
         Some(Path {

@@ -4,6 +4,7 @@
 mod at;
 mod chains;
 mod gathered;
+mod imports;
 mod keys;
 mod kinds;
 mod leading;

@@ -7,10 +7,12 @@ ghost use Rattle.path_select.specs.NodeModel.Reaching.{circuit_at, has_path_with
 ghost use Rattle.path_select.specs.NodeModel.Tables.{same_prefix};
 ghost use Rattle.path_select.specs.NodeModel.Keys.{of_up};
 ghost use Rattle.path_select.specs.NodeModel.Values.{Label as LabelOf};
-ghost use Rattle.vpn_tables.specs.Answers.{is_up_at, leads_within, publishes_within};
+ghost use Rattle.vpn_tables.specs.Answers.{is_up_at, publishes_within};
+ghost use Rattle.vpn_tables.specs.Imported.{is_imported_within};
 ghost use Rattle.vpn_tables.specs.Views.{agent_of, peer_of};
 
 use crate::chains::Side;
+use crate::imports::Imports;
 use crate::routes::is_within;
 use crate::tables::{Agent, VpnTables};
 use ov_sync::SyncIn;
@@ -121,29 +123,30 @@ impl VpnTables {
     pub(crate) fn has_path_within(&self, i: InstanceId, subnet: &Prefix) -> bool
         ensures { result ≡ has_path_within self.now i subnet.now }
     {
-        if self.has_own_within(i, subnet) {
+        let imports = self.imported(i);
+        if self.has_own_within(&imports, subnet) {
             return true;
         }
-        self.has_peers_within(i, subnet)
+        self.has_peers_within(&imports, subnet)
     }
 
-    fn has_own_within(&self, i: InstanceId, subnet: &Prefix) -> bool
-        ensures { result ≡ list_any (leads_within self.now i subnet.now) (own_paths self.now) }
+    fn has_own_within(&self, imports: &Imports<'_>, subnet: &Prefix) -> bool
+        ensures { result ≡ list_any (is_imported_within imports.now subnet.now) (own_paths self.now) }
     {
         for agent in &self.agents {
-            if self.has_agents_within(agent, i, subnet) {
+            if self.has_agents_within(agent, imports, subnet) {
                 return true;
             }
         }
         false
     }
 
-    fn has_agents_within(&self, agent: &Agent, i: InstanceId, subnet: &Prefix) -> bool
-        ensures { result ≡ list_any (leads_within self.now i subnet.now)
+    fn has_agents_within(&self, agent: &Agent, imports: &Imports<'_>, subnet: &Prefix) -> bool
+        ensures { result ≡ list_any (is_imported_within imports.now subnet.now)
             (filter_map (λ e. own_path self.now (agent_of agent.now) e.0 e.1) (entries (agent_of agent.now).map)) }
     {
         for (key, label) in agent.told.iter() {
-            if self.is_own_within(agent, key, *label, i, subnet) {
+            if self.is_own_within(agent, key, *label, imports, subnet) {
                 return true;
             }
         }
@@ -156,26 +159,26 @@ impl VpnTables {
         agent: &Agent,
         key: &UpKey,
         label: Label,
-        i: InstanceId,
+        imports: &Imports<'_>,
         subnet: &Prefix,
     ) -> bool
-        ensures { result ≡ list_any (leads_within self.now i subnet.now)
+        ensures { result ≡ list_any (is_imported_within imports.now subnet.now)
             (cons_option (own_path self.now (agent_of agent.now) (of_up key.now) (LabelOf label)) []) }
     {
         if !publishes_within(key, subnet) {
             return false;
         }
         match self.own_route(agent, key, label) {
-            Some(route) => self.imports_any(i, &[route.target]),
+            Some(route) => imports.has(route.target),
             None => false,
         }
     }
 
-    fn has_peers_within(&self, i: InstanceId, subnet: &Prefix) -> bool
-        ensures { result ≡ list_any (leads_within self.now i subnet.now) (peer_paths self.now) }
+    fn has_peers_within(&self, imports: &Imports<'_>, subnet: &Prefix) -> bool
+        ensures { result ≡ list_any (is_imported_within imports.now subnet.now) (peer_paths self.now) }
     {
         for routes in &self.peers {
-            if self.has_peer_within(routes, i, subnet) {
+            if self.has_peer_within(routes, imports, subnet) {
                 return true;
             }
         }
@@ -185,15 +188,15 @@ impl VpnTables {
     fn has_peer_within(
         &self,
         routes: &SyncIn<VpnKey, VpnRoute>,
-        i: InstanceId,
+        imports: &Imports<'_>,
         subnet: &Prefix,
     ) -> bool
-        ensures { (session : ℕ) → result ≡ list_any (leads_within self.now i subnet.now)
+        ensures { (session : ℕ) → result ≡ list_any (is_imported_within imports.now subnet.now)
             (filter_map (λ e. peer_path session e.0 e.1) (entries (peer_of routes.now))) }
     {
         for (key, route) in routes.iter() {
             if is_within(&key.prefix, subnet) {
-                if self.imports_any(i, route.targets.items()) {
+                if imports.has_any(route.targets.items()) {
                     return true;
                 }
             }

@@ -1,23 +1,23 @@
-//! What instances import, and the routes of the agents' publications.
-ghost use Rattle.std.specs.Prelude.{◌≡◌, ◌≤◌, ◌==◌, ◌<◌, Some, None, map};
-ghost use Rattle.std.specs.List.{list_any};
+//! Which instances are known and imported, and the routes of the agents' publications.
+ghost use Rattle.std.specs.Prelude.{◌≡◌, ◌≤◌, ◌<◌, [], None, map};
+ghost use Rattle.std.specs.List.{cons_option, filter};
 ghost use Rattle.std.specs.Option.{option_map};
 ghost use Rattle.ov_types.specs.Prefix.{is_inside as is_inside_of};
-ghost use Rattle.route_targets.specs.Numbers.{hop_of, target_of};
 ghost use Rattle.path_select.specs.NodeModel.Keys.{of_up};
 ghost use Rattle.path_select.specs.NodeModel.Values.{Label as LabelOf};
 ghost use Rattle.path_select.specs.NodeModel.Reaching.{published_by, publisher};
-ghost use Rattle.path_select.specs.NodeModel.Uses.{imports, is_known};
-ghost use Rattle.path_select.specs.NodeModel.Paths.{own_path};
+ghost use Rattle.path_select.specs.NodeModel.Uses.{is_known};
+ghost use Rattle.path_select.specs.NodeModel.Paths.{has_target, own_path};
 ghost use Rattle.path_select.specs.NodeModel.Tables.{same_prefix};
 ghost use Rattle.vpn_tables.specs.Routes.{path_of};
 ghost use Rattle.vpn_tables.specs.Touched.{imports_one};
 ghost use Rattle.vpn_tables.specs.Views.{agent_of};
 
+use crate::imports::Imports;
 use crate::tables::{Agent, VpnTables};
-use ov_types::{Addr, InstanceId, Label, LowKey, LowValue, Prefix, Target, UpKey};
+use ov_types::{Addr, InstanceId, Label, LowKey, Prefix, Target, UpKey};
 use path_select::Path;
-use route_targets::{UseHop, circuit_address, circuit_instance, hop_of, rd, target};
+use route_targets::{circuit_address, circuit_instance, hop_of, rd, target};
 
 /// A route of this control node's own: its prefix, where it leads, and its one target.
 #[derive(Clone, Copy, PartialEq, Eq)]
@@ -37,18 +37,6 @@ pub(crate) fn is_same(found: &Prefix, prefix: &Prefix) -> bool
     ensures { result ≡ same_prefix found.now prefix.now }
 {
     found.addr().0 == prefix.addr().0 && found.len() == prefix.len()
-}
-
-/// Whether one of these instances has a target.
-fn is_of_any(asn: u32, instances: &[InstanceId], wanted: Target) -> bool
-    ensures { result ≡ list_any (λ u. wanted.0 == u.0) (map (target_of asn) instances.now) }
-{
-    for instance in instances {
-        if wanted.0 == target(asn, *instance).0 {
-            return true;
-        }
-    }
-    false
 }
 
 impl Agent {
@@ -94,49 +82,12 @@ impl VpnTables {
         }
     }
 
-    /// Whether an import of an instance has a target.
-    pub(crate) fn imports_target(&self, i: InstanceId, wanted: Target) -> bool
-        ensures { result ≡ list_any (λ u. wanted.0 == u.0) (map (target_of self.now.asn) (imports self.now.feed i)) }
-    {
-        if let Some(hop) = hop_of(i) {
-            return self.hop_imports_target(i, hop, wanted);
-        }
-        match self.low(&LowKey::Instance(i.0)) {
-            Some(LowValue::Instance { imports }) => is_of_any(self.asn, imports.as_slice(), wanted),
-            _ => false,
-        }
-    }
-
-    fn hop_imports_target(&self, i: InstanceId, hop: UseHop, wanted: Target) -> bool
-        requires { hop_of i ≡ Some hop }
-        ensures { result ≡ list_any (λ u. wanted.0 == u.0) (map (target_of self.now.asn) (imports self.now.feed i)) }
-    {
-        let Some(side) = self.side(hop.use_no, true) else {
-            return false;
-        };
-        if hop.place > side.services() {
-            return false;
-        }
-        if wanted.0 == target(self.asn, i).0 {
-            return true;
-        }
-        if hop.place == 0 && wanted.0 == target(self.asn, side.left()).0 {
-            return true;
-        }
-        hop.place == side.services() && wanted.0 == target(self.asn, side.right()).0
-    }
-
     /// Whether an import of an instance has one of these targets: of none where the instance is not known. It takes no
     /// memory.
     pub fn imports_any(&self, i: InstanceId, targets: &[Target]) -> bool
         ensures { result ≡ imports_one self.now targets.now i }
     {
-        for wanted in targets {
-            if self.imports_target(i, *wanted) {
-                return true;
-            }
-        }
-        false
+        self.imported(i).has_any(targets)
     }
 
     /// The route of a publication, where its instance is known.
@@ -160,5 +111,25 @@ impl VpnTables {
             path,
             target: target(self.asn, instance),
         })
+    }
+
+    /// The route of a publication, where its instance is known and among some imports.
+    pub(crate) fn imported_route(
+        &self,
+        agent: &Agent,
+        key: &UpKey,
+        label: Label,
+        imports: &Imports<'_>,
+    ) -> Option<Route>
+        ensures { map path_of (cons_option result []) ≡ filter (has_target imports.now)
+            (cons_option (own_path self.now (agent_of agent.now) (of_up key.now) (LabelOf label)) []) }
+    {
+        let UpKey::Publish(instance, _) = *key else {
+            return None;
+        };
+        if !imports.has(target(self.asn, instance)) {
+            return None;
+        }
+        self.own_route(agent, key, label)
     }
 }

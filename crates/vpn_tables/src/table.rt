@@ -1,21 +1,24 @@
 //! The table of an instance: one walk over its paths, with the least of each prefix.
 ghost use Rattle.std.specs.Prelude.{◌≡◌, [], ◌∷◌, OnOk, IfOk, map};
-ghost use Rattle.std.specs.List.{filter, filter_map};
+ghost use Rattle.std.specs.List.{cons_option, filter, filter_map};
 ghost use Rattle.std.specs.FinMap.{entries};
 ghost use Rattle.route_targets.specs.Numbers.{target_of};
+ghost use Rattle.path_select.specs.NodeModel.Keys.{of_up};
 ghost use Rattle.path_select.specs.NodeModel.Paths.{has_target, own_path, own_paths, peer_path, peer_paths};
 ghost use Rattle.path_select.specs.NodeModel.Reaching.{reoriginated_paths};
 ghost use Rattle.path_select.specs.NodeModel.Uses.{use_of};
-ghost use Rattle.vpn_tables.specs.Answers.{is_wanted, rows_at};
+ghost use Rattle.path_select.specs.NodeModel.Values.{Label as LabelOf};
+ghost use Rattle.vpn_tables.specs.Answers.{rows_at};
 ghost use Rattle.vpn_tables.specs.Least.{least_of, offer_all};
 ghost use Rattle.vpn_tables.specs.Routes.{path_of};
 ghost use Rattle.vpn_tables.specs.Views.{agent_of, peer_of};
 
+use crate::imports::Imports;
 use crate::least::{offer, rows};
 use crate::routes::Route;
 use crate::tables::{Agent, VpnTables};
 use ov_sync::SyncIn;
-use ov_types::{InstanceId, LowKey, NoMemory, Prefix, TableRow, Target, VpnKey, VpnRoute};
+use ov_types::{InstanceId, Label, LowKey, NoMemory, Prefix, TableRow, Target, UpKey, VpnKey, VpnRoute};
 use path_select::Path;
 use route_targets::{hop_of, target};
 
@@ -28,51 +31,63 @@ impl VpnTables {
         ensures { IfOk result (λ rows. rows.items ≡ rows_at self.now i) }
     {
         let mut least = SyncIn::new(self.alloc);
-        self.offer_agents(&mut least, i)?;
-        self.offer_peers(&mut least, i)?;
+        let imports = self.imported(i);
+        self.offer_agents(&mut least, &imports)?;
+        self.offer_peers(&mut least, &imports)?;
         self.offer_led(&mut least, i)?;
         let rows = rows(self.alloc, &least)?;
         Ok(rows)
     }
 
-    fn offer_agents(&self, least: &mut Least, i: InstanceId) -> Result<(), NoMemory>
+    fn offer_agents(&self, least: &mut Least, imports: &Imports<'_>) -> Result<(), NoMemory>
         ensures { OnOk result (least_of least.new
-            ≡ offer_all (least_of least.old) (filter (is_wanted self.now i) (own_paths self.now))) }
+            ≡ offer_all (least_of least.old) (filter (has_target imports.now) (own_paths self.now))) }
     {
         for agent in &self.agents {
-            self.offer_agent(least, agent, i)?;
+            self.offer_agent(least, agent, imports)?;
         }
         Ok(())
     }
 
-    fn offer_agent(&self, least: &mut Least, agent: &Agent, i: InstanceId) -> Result<(), NoMemory>
-        ensures { OnOk result (least_of least.new ≡ offer_all (least_of least.old) (filter (is_wanted self.now i)
+    fn offer_agent(
+        &self,
+        least: &mut Least,
+        agent: &Agent,
+        imports: &Imports<'_>,
+    ) -> Result<(), NoMemory>
+        ensures { OnOk result (least_of least.new ≡ offer_all (least_of least.old) (filter (has_target imports.now)
             (filter_map (λ e. own_path self.now (agent_of agent.now) e.0 e.1) (entries (agent_of agent.now).map)))) }
     {
         for (key, label) in agent.told.iter() {
-            if let Some(route) = self.own_route(agent, key, *label) {
-                self.offer_route(least, &route, i)?;
-            }
+            self.offer_told(least, agent, key, *label, imports)?;
         }
         Ok(())
     }
 
-    fn offer_route(&self, least: &mut Least, route: &Route, i: InstanceId) -> Result<(), NoMemory>
-        ensures { OnOk result (least_of least.new
-            ≡ offer_all (least_of least.old) (filter (is_wanted self.now i) (path_of route.now ∷ []))) }
+    /// Offers the route of a publication, where it is imported.
+    fn offer_told(
+        &self,
+        least: &mut Least,
+        agent: &Agent,
+        key: &UpKey,
+        label: Label,
+        imports: &Imports<'_>,
+    ) -> Result<(), NoMemory>
+        ensures { OnOk result (least_of least.new ≡ offer_all (least_of least.old) (filter (has_target imports.now)
+            (cons_option (own_path self.now (agent_of agent.now) (of_up key.now) (LabelOf label)) []))) }
     {
-        if self.imports_any(i, &[route.target]) {
-            offer(least, route.prefix, route.path)?;
+        match self.imported_route(agent, key, label, imports) {
+            Some(route) => offer(least, route.prefix, route.path),
+            None => Ok(()),
         }
-        Ok(())
     }
 
-    fn offer_peers(&self, least: &mut Least, i: InstanceId) -> Result<(), NoMemory>
+    fn offer_peers(&self, least: &mut Least, imports: &Imports<'_>) -> Result<(), NoMemory>
         ensures { OnOk result (least_of least.new
-            ≡ offer_all (least_of least.old) (filter (is_wanted self.now i) (peer_paths self.now))) }
+            ≡ offer_all (least_of least.old) (filter (has_target imports.now) (peer_paths self.now))) }
     {
         for (place, routes) in self.peers.iter().enumerate() {
-            self.offer_peer(least, 1 + place as u16, routes, i)?;
+            self.offer_peer(least, 1 + place as u16, routes, imports)?;
         }
         Ok(())
     }
@@ -82,13 +97,13 @@ impl VpnTables {
         least: &mut Least,
         session: u16,
         routes: &SyncIn<VpnKey, VpnRoute>,
-        i: InstanceId,
+        imports: &Imports<'_>,
     ) -> Result<(), NoMemory>
-        ensures { OnOk result (least_of least.new ≡ offer_all (least_of least.old) (filter (is_wanted self.now i)
+        ensures { OnOk result (least_of least.new ≡ offer_all (least_of least.old) (filter (has_target imports.now)
             (filter_map (λ e. peer_path session e.0 e.1) (entries (peer_of routes.now))))) }
     {
         for (key, route) in routes.iter() {
-            if self.imports_any(i, route.targets.items()) {
+            if imports.has_any(route.targets.items()) {
                 let path = Path {
                     session,
                     rd: key.rd,

@@ -1,7 +1,6 @@
 use Rattle.std.proofs.Common.{ap, sym, ◌∙◌, ◌+◌, List, map, drop}
 use Rattle.std.specs.List.{filter, flat_map}
-use Rattle.path_select.specs.NodeModel.Paths.{Path}
-use Rattle.vpn_tables.specs.Answers.{is_wanted}
+use Rattle.path_select.specs.NodeModel.Paths.{Path, has_target}
 use Rattle.vpn_tables.specs.Least.{least_of, offer_all}
 use Rattle.vpn_tables.specs.Views.{agent_of}
 use Rattle.vpn_tables.proofs.Offers.{offer-parts, agents_turn}
@@ -13,7 +12,7 @@ loop-agent-preserved c =
     let h = c.args.self.now in
     let k = c.loop-agent.agent-index in
     let items = c.deref-agent-items.result.now in
-    offer-parts (is_wanted h c.args.i) (least_of c.loop-agent.least) (least_of c.offer_agent.new.least) (own_of h (agent_of c.agent-item.result)) (flat_map (own_of h) (map agent_of (drop (k + 1) items)))
+    offer-parts (has_target c.args.imports.now) (least_of c.loop-agent.least) (least_of c.offer_agent.new.least) (own_of h (agent_of c.agent-item.result)) (flat_map (own_of h) (map agent_of (drop (k + 1) items)))
     c.in_ok-offer_agent.ensures
-    ∙ ap (λ (l : List Path). offer_all (least_of c.loop-agent.least) (filter (is_wanted h c.args.i) l)) (sym (agents_turn h items k c.agent-item.result c.loop-agent-test.true c.agent-item.is))
+    ∙ ap (λ (l : List Path). offer_all (least_of c.loop-agent.least) (filter (has_target c.args.imports.now) l)) (sym (agents_turn h items k c.agent-item.result c.loop-agent-test.true c.agent-item.is))
     ∙ c.loop-agent.invariant

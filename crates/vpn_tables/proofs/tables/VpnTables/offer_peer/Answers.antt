@@ -4,15 +4,14 @@ use Rattle.std.specs.Map.Iter.{deref_pair}
 use Rattle.std.proofs.lemmas.Map.Iter.{rest_all}
 use Rattle.ov_types.specs.declared.vpn.VpnKey.{VpnKey}
 use Rattle.ov_types.specs.declared.vpn.VpnRoute.{VpnRoute}
-use Rattle.path_select.specs.NodeModel.Paths.{Path}
-use Rattle.vpn_tables.specs.Answers.{is_wanted}
+use Rattle.path_select.specs.NodeModel.Paths.{Path, has_target}
 use Rattle.vpn_tables.specs.Least.{least_of, offer_all}
 use Rattle.vpn_tables.proofs.Walks.{peer_typed, peer_is}
 use Rattle.vpn_tables.proofs.tables.VpnTables.offer_peer.Goals as goal
 
 pub returns : goal.returns
 returns c =
-    let wanted = is_wanted c.args.self.now c.args.i in
+    let wanted = has_target c.args.imports.now in
     let before = rest_all deref_pair c.loop-key.key-iterator c.next.new.self c.next.result c.in-None.is c.next.ensures.steps in
     ap (λ (l : List (VpnKey × VpnRoute)). offer_all (least_of c.loop-key.least) (filter wanted (filter_map (peer_typed c.args.session) l))) (sym before)
     ∙ c.loop-key.invariant

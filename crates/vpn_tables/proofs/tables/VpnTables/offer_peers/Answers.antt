@@ -1,8 +1,7 @@
 use Rattle.std.proofs.Common.{ap, sym, ◌∙◌, ◌+◌, List, map, drop}
 use Rattle.std.specs.List.{filter, filter_map}
 use Rattle.std.specs.FinMap.{entries}
-use Rattle.path_select.specs.NodeModel.Paths.{Path, peer_path}
-use Rattle.vpn_tables.specs.Answers.{is_wanted}
+use Rattle.path_select.specs.NodeModel.Paths.{Path, has_target, peer_path}
 use Rattle.vpn_tables.specs.Least.{least_of, offer_all}
 use Rattle.vpn_tables.specs.Views.{peer_of}
 use Rattle.vpn_tables.proofs.Offers.{offer-parts}
@@ -11,7 +10,7 @@ use Rattle.vpn_tables.proofs.tables.VpnTables.offer_peers.Goals as goal
 
 pub loop-place-preserved : goal.loop-place-preserved
 loop-place-preserved c =
-    let wanted = is_wanted c.args.self.now c.args.i in
+    let wanted = has_target c.args.imports.now in
     let k = c.loop-place.place in
     let items = c.deref-routes-items.result.now in
     offer-parts wanted (least_of c.loop-place.least) (least_of c.offer_peer.new.least)

@@ -7,7 +7,7 @@ use Rattle.ov_types.specs.declared.keys.UpKey.{UpKey}
 use Rattle.ov_types.specs.declared.numbers.Label.{Label}
 use Rattle.path_select.specs.NodeModel.Paths.{Path}
 use Rattle.path_select.specs.Selection.{plain}
-use Rattle.vpn_tables.specs.At.{is_wanted_at}
+use Rattle.vpn_tables.specs.Imported.{is_imported_at}
 use Rattle.vpn_tables.proofs.Keeping.{kept_turn}
 use Rattle.vpn_tables.proofs.Walks.{own_typed, own_is}
 use Rattle.vpn_tables.proofs.tables.VpnTables.push_agent.Goals as goal
@@ -15,7 +15,7 @@ use Rattle.vpn_tables.proofs.tables.VpnTables.push_agent.Goals as goal
 pub loop-key-preserved : goal.loop-key-preserved
 loop-key-preserved c =
     let h = c.args.self.now in
-    let wanted = is_wanted_at h c.args.i c.args.prefix.now in
+    let wanted = is_imported_at c.args.imports.now c.args.prefix.now in
     let before = rest_more deref_pair c.loop-key.key-iterator c.next.new.self c.next.result (c.in-Some.key, c.in-Some.label) c.in-Some.is c.next.ensures.steps in
     kept_turn wanted c.loop-key.paths.items c.keep.new.paths.items (cons_option c.own_at-path.result []) _
     (own_typed h c.args.agent.now (c.in-Some.key.now, c.in-Some.label.now)) (filter_map (own_typed h c.args.agent.now) c.next.new.self)
@@ -25,7 +25,7 @@ loop-key-preserved c =
 pub returns : goal.returns
 returns c =
     let h = c.args.self.now in
-    let wanted = is_wanted_at h c.args.i c.args.prefix.now in
+    let wanted = is_imported_at c.args.imports.now c.args.prefix.now in
     let before = rest_all deref_pair c.loop-key.key-iterator c.next.new.self c.next.result c.in-None.is c.next.ensures.steps in
     sym (append-nil c.loop-key.paths.items)
     ∙ ap (λ (l : List (UpKey × Label)). c.loop-key.paths.items ++ map plain (filter wanted (filter_map (own_typed h c.args.agent.now) l))) (sym before)

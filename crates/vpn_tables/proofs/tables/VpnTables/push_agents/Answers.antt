@@ -2,7 +2,7 @@ use Rattle.std.proofs.Common.{ap, sym, ◌∙◌, ◌+◌, ◌++◌, List, map, 
 use Rattle.std.specs.List.{filter, flat_map}
 use Rattle.path_select.specs.NodeModel.Paths.{Path}
 use Rattle.path_select.specs.Selection.{plain}
-use Rattle.vpn_tables.specs.At.{is_wanted_at}
+use Rattle.vpn_tables.specs.Imported.{is_imported_at}
 use Rattle.vpn_tables.specs.Views.{agent_of}
 use Rattle.vpn_tables.proofs.Keeping.{kept_parts}
 use Rattle.vpn_tables.proofs.Offers.{agents_turn, filter-append}
@@ -12,7 +12,7 @@ use Rattle.vpn_tables.proofs.tables.VpnTables.push_agents.Goals as goal
 pub loop-agent-preserved : goal.loop-agent-preserved
 loop-agent-preserved c =
     let h = c.args.self.now in
-    let wanted = is_wanted_at h c.args.i c.args.prefix.now in
+    let wanted = is_imported_at c.args.imports.now c.args.prefix.now in
     let k = c.loop-agent.agent-index in
     let items = c.deref-agent-items.result.now in
     let here = own_of h (agent_of c.agent-item.result) in

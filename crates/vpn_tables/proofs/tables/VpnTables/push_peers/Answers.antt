@@ -3,7 +3,7 @@ use Rattle.std.specs.List.{filter, filter_map}
 use Rattle.std.specs.FinMap.{entries}
 use Rattle.path_select.specs.NodeModel.Paths.{Path, peer_path}
 use Rattle.path_select.specs.Selection.{plain}
-use Rattle.vpn_tables.specs.At.{is_wanted_at}
+use Rattle.vpn_tables.specs.Imported.{is_imported_at}
 use Rattle.vpn_tables.specs.Views.{peer_of}
 use Rattle.vpn_tables.proofs.Keeping.{kept_parts}
 use Rattle.vpn_tables.proofs.Offers.{filter-append}
@@ -12,7 +12,7 @@ use Rattle.vpn_tables.proofs.tables.VpnTables.push_peers.Goals as goal
 
 pub loop-place-preserved : goal.loop-place-preserved
 loop-place-preserved c =
-    let wanted = is_wanted_at c.args.self.now c.args.i c.args.prefix.now in
+    let wanted = is_imported_at c.args.imports.now c.args.prefix.now in
     let k = c.loop-place.place in
     let items = c.deref-routes-items.result.now in
     let here = filter_map (λ e. peer_path (1 + k) e.0 e.1) (entries (peer_of c.routes-item.result)) in

@@ -1,7 +1,7 @@
 use Rattle.std.proofs.Common.{◌≡◌, ◌==◌, map, drop}
 use Rattle.std.specs.List.{list_any}
 use Rattle.route_targets.specs.Numbers.{target_of}
-use Rattle.vpn_tables.proofs.routes.is_of_any.Given as goal
+use Rattle.vpn_tables.proofs.imports.is_of_any.Given as goal
 
 abbrev pub invariant-loop-instance : goal.invariant-loop-instance
 invariant-loop-instance l =
