@@ -9,10 +9,10 @@ use Rattle.ov_types.specs.Prefix.{Block}
 use Rattle.ov_types.specs.declared.numbers.InstanceId.{InstanceId}
 use Rattle.ov_types.specs.declared.numbers.Label.{Label as LabelNo}
 use Rattle.ov_types.specs.declared.targets.Target.{Target}
-use Rattle.route_targets.specs.Numbers.{target_of}
+use Rattle.route_targets.specs.Numbers.{distinguisher_of, target_of}
 use Rattle.path_select.specs.NodeModel.Keys.{Publish}
 use Rattle.path_select.specs.NodeModel.Values.{Label}
-use Rattle.path_select.specs.NodeModel.Paths.{Holdings, Told, has_target, own_path}
+use Rattle.path_select.specs.NodeModel.Paths.{Holdings, Path, Told, has_target, own_path}
 use Rattle.path_select.specs.NodeModel.Uses.{is_known}
 use Rattle.vpn_tables.specs.Routes.{path_of}
 use Rattle.vpn_tables.specs.declared.routes.Route.{Route}
@@ -34,19 +34,29 @@ first_is_not p o ys e = first_then p o ys ∙ ap (λ b. b || list_any p ys) e
 
 -- the route of a publication has the target of its instance alone
 module _ (h : Holdings) (a : Told) (i : InstanceId) (prefix : Block) (label : LabelNo) (wanted : List Target) where
+  abbrev pub own : Path
+  own = record {
+    prefix = prefix;
+    rd = distinguisher_of a.address i;
+    next_hop = a.address;
+    label = label;
+    targets = target_of h.asn i ∷ [];
+    session = a.session;
+  }
+
   pub kept_own : list_any (λ u. (target_of h.asn i).0 == u.0) wanted ≡ true
       → cons_option (own_path h a (Publish i prefix) (Label label)) [] ≡ filter (has_target wanted) (cons_option (own_path h a (Publish i prefix) (Label label)) [])
   kept_own e =
-      elim (is_known h.feed i) as (λ k. cons_option (cond k (Some _) None) [] ≡ filter (has_target wanted) (cons_option (cond k (Some _) None) [])) [
-        | true ↦ ap (λ b. cond (b || false) (_ ∷ []) []) (sym e)
+      elim (is_known h.feed i) as (λ k. cons_option (cond k (Some own) None) [] ≡ filter (has_target wanted) (cons_option (cond k (Some own) None) [])) [
+        | true ↦ ap (λ b. cond (b || false) (own ∷ []) []) (sym e)
         | false ↦ refl
       ]
 
   pub dropped_own : list_any (λ u. (target_of h.asn i).0 == u.0) wanted ≡ false
       → [] ≡ filter (has_target wanted) (cons_option (own_path h a (Publish i prefix) (Label label)) [])
   dropped_own e =
-      elim (is_known h.feed i) as (λ k. [] ≡ filter (has_target wanted) (cons_option (cond k (Some _) None) [])) [
-        | true ↦ ap (λ b. cond (b || false) (_ ∷ []) []) (sym e)
+      elim (is_known h.feed i) as (λ k. [] ≡ filter (has_target wanted) (cons_option (cond k (Some own) None) [])) [
+        | true ↦ ap (λ b. cond (b || false) (own ∷ []) []) (sym e)
         | false ↦ refl
       ]
 
