@@ -1,9 +1,7 @@
 -- The keys of agents, from the typed entries, and what holds of every feed that is held.
 use Rattle.std.specs.Prelude.{◌≡◌, ◌≤◌, List, [], ◌∷◌, map, length}
 use Rattle.std.specs.declared.cmp.Ordering.{Ordering}
-use Rattle.std.specs.declared.option.Option.{Option}
-use Rattle.std.specs.declared.option.Option.TheVariants.{Some, None}
-use Rattle.std.specs.BTreeMap.{BTreeMap, IsOrdered}
+use Rattle.std.specs.declared.option.Option.TheVariants.{Some}
 use Rattle.std.specs.Cmp.{IsTotalOrder}
 use Rattle.std.specs.List.{cons_option, filter_map}
 use Rattle.std.specs.List.Sorted.{IsStrictlySortedBy}
@@ -22,7 +20,6 @@ use Rattle.ov_types.specs.declared.objects.LowValue.TheVariants as low
 use Rattle.path_select.specs.NodeModel.Keys.{Key, Low, of_up}
 use Rattle.path_select.specs.NodeModel.Values.{Value, Label, Object}
 use Rattle.path_select.specs.NodeModel.Maps.{Map, object, objects, as_object}
-use Rattle.path_select.specs.NodeModel.Members.{Member}
 use Rattle.path_select.specs.NodeModel.Uses.{Use, as_use}
 use Rattle.path_select.proofs.NodeModel.Members.{from_filter_map, none_some}
 use Rattle.path_select.proofs.NodeModel.Objects.{object_of}

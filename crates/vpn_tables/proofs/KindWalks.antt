@@ -1,11 +1,11 @@
 -- The held objects of one kind are a range of their keys.
 use Rattle.std.specs.Prelude.{◌≡◌, List, [], ◌∷◌, Bool, true, false, cond}
 use Rattle.std.specs.declared.option.Option.{Option}
-use Rattle.std.specs.declared.option.Option.TheVariants.{Some, None}
+use Rattle.std.specs.declared.option.Option.TheVariants.{None}
 use Rattle.std.specs.declared.ops.Bound.TheVariants.{Included, Excluded, Unbounded}
 use Rattle.std.specs.BTreeMap.Range.{range_contains}
-use Rattle.std.specs.List.{AllByRecursion, cons_option, filter, filter_map, flat_map}
-use Rattle.std.proofs.Common.{refl, sym, ◌∙◌, ap, arith, rules, inl, inr}
+use Rattle.std.specs.List.{AllByRecursion, cons_option, filter, filter_map}
+use Rattle.std.proofs.Common.{refl, sym, ◌∙◌, ap, arith, inl, inr}
 use Rattle.std.proofs.lemmas.Bool.{true≢false}
 use Rattle.std.proofs.lemmas.Bool.Decides.{nat_tests}
 use Rattle.ov_types.specs.declared.objects.LowKey.{LowKey}
@@ -16,7 +16,7 @@ use Rattle.path_select.specs.NodeModel.Directions.{low_order}
 use Rattle.path_select.specs.NodeModel.Maps.{Map, as_object, objects}
 use Rattle.path_select.specs.NodeModel.Members.{Member}
 use Rattle.path_select.specs.NodeModel.Tables.{network_of}
-use Rattle.path_select.specs.NodeModel.Uses.{Use, as_use}
+use Rattle.path_select.specs.NodeModel.Uses.{as_use}
 use Rattle.path_select.specs.NodeModel.Wants.{is_in_slice, slice}
 use Rattle.path_select.proofs.NodeModel.Members.{from_filter}
 use Rattle.path_select.proofs.NodeModel.Objects.{object_of}

@@ -14,7 +14,7 @@ use Rattle.path_select.specs.NodeModel.Values.{Object}
 use Rattle.path_select.specs.NodeModel.Maps.{Map, object, objects, low_entry}
 use Rattle.path_select.specs.NodeModel.Uses.{Use, as_use, use_from}
 use Rattle.path_select.specs.NodeModel.Paths.{Holdings, Path}
-use Rattle.path_select.specs.NodeModel.Reaching.{Side, sides_of, sides, reoriginated_paths}
+use Rattle.path_select.specs.NodeModel.Reaching.{Side, sides_of, reoriginated_paths}
 use Rattle.vpn_tables.specs.Kinds.{is_use}
 use Rattle.vpn_tables.specs.Leading.{leads, use_at, sides_of_held}
 use Rattle.vpn_tables.proofs.KindWalks.{uses_in}

@@ -1,4 +1,4 @@
-use Rattle.std.proofs.Common.{ap, ◌∙◌, List}
+use Rattle.std.proofs.Common.{ap, ◌∙◌}
 use Rattle.std.specs.FinMap.{from_entries}
 use Rattle.vpn_tables.proofs.Gathering.{in_order_are}
 use Rattle.vpn_tables.proofs.gathered.in_order.Goals as goal

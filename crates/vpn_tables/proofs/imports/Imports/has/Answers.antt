@@ -1,4 +1,4 @@
-use Rattle.std.proofs.Common.{ap, sym, ◌∙◌, ◌==◌, List, Bool, map}
+use Rattle.std.proofs.Common.{ap, sym, ◌∙◌, ◌==◌, Bool, map}
 use Rattle.std.specs.List.{cons_option, list_any}
 use Rattle.ov_types.specs.declared.targets.Target.{Target}
 use Rattle.route_targets.specs.Numbers.{target_of}

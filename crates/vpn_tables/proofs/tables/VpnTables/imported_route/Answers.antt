@@ -1,4 +1,4 @@
-use Rattle.std.proofs.Common.{ap, sym, ◌∙◌, ◌==◌, List, []}
+use Rattle.std.proofs.Common.{ap, sym, ◌∙◌, ◌==◌, []}
 use Rattle.std.specs.declared.option.Option.{Option}
 use Rattle.std.specs.List.{cons_option, filter, list_any}
 use Rattle.ov_types.specs.declared.keys.UpKey.{UpKey}
