@@ -14,14 +14,13 @@ use Rattle.config_types.specs.declared.config.Config.{Config}
 use Rattle.config_types.specs.declared.config.Network.{Network}
 use Rattle.config_types.specs.declared.topology.Topology.{Topology}
 use Rattle.config_check.specs.Finding.{network_numbered}
-use Rattle.transform_model.specs.Tables.{Row, circuit_row, circuits_in, end_rows, hop_rows, instance_table, rows_of, subnet_rows, with_rows}
+use Rattle.transform_model.specs.Tables.{Row, circuit_row, circuits_in, end_rows, hop_rows, instance_table, rows_of, subnet_rows}
 use Rattle.transform_model.specs.Uses.{Circuit, ConfiguredUse, left_circuits, right_circuits, first_hop, last_hop, uses}
 use Rattle.transform_model.proofs.InUse.{use_is}
 use Rattle.transform_model.proofs.Lists.{place_within}
 use Rattle.transform_model.proofs.Rows.{at_end, either_in, left_in, right_in}
 use Rattle.schema_transform.specs.ByNumber.{use_at, use_numbered, use_rows}
 use Rattle.schema_transform.specs.Sound.{IsSound}
-use Rattle.schema_transform.proofs.Putting.{rows_append}
 use Rattle.schema_transform.proofs.Services.{is_short}
 
 nothing_in : {A : Type 0} (xs : List A) → ((x : A) → Contains xs x → ⊥) → xs ≡ []
@@ -163,13 +162,14 @@ use_rows_are t c i among h is =
     ] refl
 
 -- the rows of the network with an instance's number, and then what the uses give it
-pub table_put : (t : Topology) (c : Config) (i : InstanceId) (among : ℕ → Option ConfiguredUse) (before more after : List Row) → IsSound c
+pub table_made : (t : Topology) (c : Config) (i : InstanceId) (among : ℕ → Option ConfiguredUse) (before more after : List Row) → IsSound c
     → ((n : ℕ) → among n ≡ use_numbered (uses c) n)
-    → more ≡ with_rows before (rows_of t c (network_numbered c i.0))
-    → after ≡ with_rows more (use_rows t c i (use_at among i))
-    → after ≡ with_rows before (instance_table t c i)
-table_put t c i among before more after h is first second =
+    → before ≡ []
+    → more ≡ before ++ rows_of t c (network_numbered c i.0)
+    → after ≡ more ++ use_rows t c i (use_at among i)
+    → after ≡ instance_table t c i
+table_made t c i among before more after h is empty first second =
     second
-    ∙ ap (λ (rs : List Row). with_rows rs (use_rows t c i (use_at among i))) first
-    ∙ ap (with_rows (with_rows before (rows_of t c (network_numbered c i.0)))) (use_rows_are t c i among h is)
-    ∙ sym (rows_append (rows_of t c (network_numbered c i.0)) (flat_map (hop_rows t c i) (uses c)) before)
+    ∙ ap (λ (rs : List Row). rs ++ use_rows t c i (use_at among i))
+    (first ∙ ap (λ (rs : List Row). rs ++ rows_of t c (network_numbered c i.0)) empty)
+    ∙ ap (λ (rs : List Row). rows_of t c (network_numbered c i.0) ++ rs) (use_rows_are t c i among h is)

@@ -8,3 +8,5 @@ pub mod Small
 pub mod Forwarding
 pub mod ByNumber
 pub mod Homes
+pub mod Attached
+pub mod Nodes

@@ -50,13 +50,17 @@ goes_on {A} {B} {S} put append one all first items i item before after total lt 
     ∙ ap (put before) (sym (first item (drop (i + 1) items)) ∙ ap all (sym (next_is items i item lt at)))
     ∙ so_far
 
--- the rows of the item at i are put next
+-- one list behind another
+joined : (xs ys before : List Row) → before ++ (xs ++ ys) ≡ (before ++ xs) ++ ys
+joined xs ys before = sym (append_assoc before xs ys)
+
+-- the rows of the item at i come next
 pub rows_go_on : {A B : Type 0} (rows : B → List Row) (seen : A → B) (items : List A) (i : ℕ) (item : A)
     (before after total : List Row) → i < length items → item ≡ get_or items i item
-    → after ≡ with_rows before (rows (seen item))
-    → with_rows before (flat_map rows (map seen (drop i items))) ≡ total
-    → with_rows after (flat_map rows (map seen (drop (i + 1) items))) ≡ total
-rows_go_on rows seen = goes_on with_rows rows_append (λ x. rows (seen x)) (λ xs. flat_map rows (map seen xs)) (λ x xs. refl)
+    → after ≡ before ++ rows (seen item)
+    → before ++ flat_map rows (map seen (drop i items)) ≡ total
+    → after ++ flat_map rows (map seen (drop (i + 1) items)) ≡ total
+rows_go_on rows seen = goes_on (λ before rs. before ++ rs) joined (λ x. rows (seen x)) (λ xs. flat_map rows (map seen xs)) (λ x xs. refl)
 
 pub tables_go_on : {A : Type 0} (rows : A → List Row) (items : List A) (i : ℕ) (item : A)
     (before after total : List Row) → i < length items → item ≡ get_or items i item
@@ -134,13 +138,13 @@ all_put t c us a b d e f same ha hb hd he hf =
 pub hop_put : (t : Topology) (c : Config) (i : InstanceId) (u : ConfiguredUse) (lefts rights : List Circuit) (first last : InstanceId)
     (o a b d e f g : List Row) → lefts ≡ left_circuits u → rights ≡ right_circuits u
     → first ≡ first_hop u → last ≡ last_hop u
-    → a ≡ with_rows o (filter_map (circuit_row t i) (circuits_in i lefts))
-    → b ≡ with_rows a (filter_map (circuit_row t i) (circuits_in i rights))
-    → d ≡ with_rows b (flat_map (rows_if_in t c i u.right) lefts)
-    → e ≡ with_rows d (flat_map (rows_if_in t c i u.left) rights)
-    → f ≡ with_rows e (end_rows t c i first u.left)
-    → g ≡ with_rows f (end_rows t c i last u.right)
-    → g ≡ with_rows o (hop_rows t c i u)
+    → a ≡ o ++ filter_map (circuit_row t i) (circuits_in i lefts)
+    → b ≡ a ++ filter_map (circuit_row t i) (circuits_in i rights)
+    → d ≡ b ++ flat_map (rows_if_in t c i u.right) lefts
+    → e ≡ d ++ flat_map (rows_if_in t c i u.left) rights
+    → f ≡ e ++ end_rows t c i first u.left
+    → g ≡ f ++ end_rows t c i last u.right
+    → g ≡ o ++ hop_rows t c i u
 hop_put t c i u lefts rights first last o a b d e f g left right at_first at_last ha hb hd he hf hg =
     let r1 : List Row = filter_map (circuit_row t i) (circuits_in i lefts) in
     let r2 : List Row = filter_map (circuit_row t i) (circuits_in i rights) in
@@ -161,17 +165,17 @@ hop_put t c i u lefts rights first last o a b d e f g left right at_first at_las
     let same4 : r4 ≡ s4 = ap (flat_map (rows_if_in t c i u.left)) right ∙ sym (rows_are t c i u.left (right_circuits u)) in
     let same5 : r5 ≡ end_rows t c i (first_hop u) u.left = ap (λ (h : InstanceId). end_rows t c i h u.left) at_first in
     let same6 : r6 ≡ end_rows t c i (last_hop u) u.right = ap (λ (h : InstanceId). end_rows t c i h u.right) at_last in
-    hg ∙ ap (λ (x : List Row). with_rows x r6) (hf
-    ∙ ap (λ (x : List Row). with_rows x r5) (he
-    ∙ ap (λ (x : List Row). with_rows x r4) (hd
-    ∙ ap (λ (x : List Row). with_rows x r3) (hb
-    ∙ ap (λ (x : List Row). with_rows x r2) ha
-    ∙ sym (rows_append r1 r2 o)))))
-    ∙ sym (rows_append r5 r6 (with_rows (with_rows (with_rows o (r1 ++ r2)) r3) r4))
-    ∙ sym (rows_append r4 (r5 ++ r6) (with_rows (with_rows o (r1 ++ r2)) r3))
-    ∙ sym (rows_append r3 (r4 ++ (r5 ++ r6)) (with_rows o (r1 ++ r2)))
-    ∙ sym (rows_append (r1 ++ r2) (r3 ++ (r4 ++ (r5 ++ r6))) o)
-    ∙ ap (with_rows o) (ap (λ (x : List Row). x ++ (r3 ++ (r4 ++ (r5 ++ r6)))) same1
+    hg ∙ ap (λ (x : List Row). x ++ r6) (hf
+    ∙ ap (λ (x : List Row). x ++ r5) (he
+    ∙ ap (λ (x : List Row). x ++ r4) (hd
+    ∙ ap (λ (x : List Row). x ++ r3) (hb
+    ∙ ap (λ (x : List Row). x ++ r2) ha
+    ∙ sym (joined r1 r2 o)))))
+    ∙ sym (joined r5 r6 ((((o ++ (r1 ++ r2)) ++ r3) ++ r4)))
+    ∙ sym (joined r4 (r5 ++ r6) ((o ++ (r1 ++ r2)) ++ r3))
+    ∙ sym (joined r3 (r4 ++ (r5 ++ r6)) (o ++ (r1 ++ r2)))
+    ∙ sym (joined (r1 ++ r2) (r3 ++ (r4 ++ (r5 ++ r6))) o)
+    ∙ ap (λ (x : List Row). o ++ x) (ap (λ (x : List Row). x ++ (r3 ++ (r4 ++ (r5 ++ r6)))) same1
     ∙ ap (λ (x : List Row). s1 ++ (x ++ (r4 ++ (r5 ++ r6)))) same3
     ∙ ap (λ (x : List Row). s1 ++ (s3 ++ (x ++ (r5 ++ r6)))) same4
     ∙ ap (λ (x : List Row). s1 ++ (s3 ++ (s4 ++ (x ++ r6)))) same5

@@ -4,4 +4,5 @@ pub mod HeldUses
 pub mod Concerning
 pub mod Towards
 pub mod ByNumber
+pub mod Kept
 pub mod TransformModel

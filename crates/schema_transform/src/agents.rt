@@ -8,11 +8,13 @@ ghost use Rattle.schema_transform.specs.Concerning.{concerns_among};
 ghost use Rattle.transform_model.specs.Objects.{ascending_instances, low_objects, with_instances};
 ghost use Rattle.transform_model.specs.Tables.{tables_of};
 ghost use Rattle.schema_transform.specs.ByNumber.{AreUses};
+ghost use Rattle.schema_transform.specs.Kept.{AreTables};
 ghost use Rattle.schema_transform.specs.Sound.{IsSmall, IsSound};
 
+use crate::kept::{KeptTables, put_table};
 use crate::numbered::UsesByNumber;
 use crate::objects::instances_of;
-use crate::rows::{Row, Rows, entries_of, put_table};
+use crate::rows::{Row, Rows, entries_of};
 use config_types::{Config, Topology};
 use ov_types::{
     AclAction, AclRule, Addr, AgentRows, Attached, Entry, InstanceId, Items, Label, Low, LowKey,
@@ -224,15 +226,19 @@ pub(crate) fn tables_of(
     topology: &Topology,
     config: &Config,
     numbered: &UsesByNumber,
+    kept: &KeptTables,
     instances: &[InstanceId],
 ) -> Result<Rows, NoMemory>
     requires sound { IsSound config.now }
     requires uses { AreUses numbered.now.entries config.now }
+    requires kept { AreTables topology.now config.now kept.now.entries }
     ensures { IfOk result (λ rows. rows.entries ≡ tables_of topology.now config.now instances.now) }
 {
     let mut rows = BTreeMap::new(alloc);
     for instance in instances {
-        put_table(alloc, topology, config, numbered, *instance, &mut rows)?;
+        put_table(
+            alloc, topology, config, numbered, kept, *instance, &mut rows,
+        )?;
     }
     Ok(rows)
 }
@@ -265,15 +271,17 @@ fn rows_by(
     topology: &Topology,
     config: &Config,
     numbered: &UsesByNumber,
+    kept: &KeptTables,
     slice: &[(LowKey, LowValue)],
 ) -> Result<AgentRows, NoMemory>
     requires sound { IsSound config.now }
     requires uses { AreUses numbered.now.entries config.now }
+    requires kept { AreTables topology.now config.now kept.now.entries }
     requires small { All (λ e. IsSmall e.1) slice.now }
     ensures { IfOk result (λ rows. rows ≡ agent_rows_by topology.now config.now slice.now) }
 {
     let needed = needed_by(alloc, slice)?;
-    let tables = tables_of(alloc, topology, config, numbered, needed.as_slice())?;
+    let tables = tables_of(alloc, topology, config, numbered, kept, needed.as_slice())?;
     Ok(AgentRows {
         labels: labels_of(alloc, slice)?,
         acls: acls_of(alloc, slice)?,
@@ -288,15 +296,17 @@ pub(crate) fn agent_rows(
     topology: &Topology,
     config: &Config,
     numbered: &UsesByNumber,
+    kept: &KeptTables,
     low: &[(LowKey, LowValue)],
     address: Addr,
 ) -> Result<AgentRows, NoMemory>
     requires sound { IsSound config.now }
     requires uses { AreUses numbered.now.entries config.now }
+    requires kept { AreTables topology.now config.now kept.now.entries }
     requires low { low.now ≡ low_objects topology.now config.now }
     requires small { All (λ e. IsSmall e.1) low.now }
     ensures { IfOk result (λ rows. rows ≡ agent_rows topology.now config.now address) }
 {
     let slice = slice_of(alloc, low, address)?;
-    rows_by(alloc, topology, config, numbered, slice.as_slice())
+    rows_by(alloc, topology, config, numbered, kept, slice.as_slice())
 }

@@ -2,10 +2,13 @@
 #![tactic(auto)]
 
 mod agents;
+mod attached;
 mod attachment;
 mod chain_use;
 mod circuits;
 mod hops;
+mod kept;
+mod kept_table;
 mod numbered;
 mod objects;
 mod rows;

@@ -1,10 +1,10 @@
 //! Low-level objects.
-ghost use Rattle.std.specs.Prelude.{◌≡◌, ◌||◌, [], flat_map, map, IfOk, OnOk, IsTrue};
+ghost use Rattle.std.specs.Prelude.{◌≡◌, ◌||◌, [], filter, flat_map, map, IfOk, OnOk, IsTrue};
 ghost use Rattle.std.specs.BTreeMap.{insert_entry};
 ghost use Rattle.std.specs.List.{filter_map, list_all};
 ghost use Rattle.ov_types.specs.Keys.{low_key_cmp};
 ghost use Rattle.config_types.specs.Form.{has_port_form};
-ghost use Rattle.policy_rules.specs.Related.{imports};
+ghost use Rattle.policy_rules.specs.Related.{attaches, imports};
 ghost use Rattle.acl_compile.specs.Oriented.{ascending};
 ghost use Rattle.transform_model.specs.Objects.{acl_objects, circuit_object};
 ghost use Rattle.transform_model.specs.Objects.{circuit_objects, hop_of, imports_of, instance_object};
@@ -17,13 +17,13 @@ ghost use Rattle.schema_transform.specs.HeldUses.{use_of};
 ghost use Rattle.schema_transform.specs.Sound.{IsSound};
 ghost use Rattle.schema_transform.specs.Towards.{acl_towards};
 
+use crate::attached::{are_related_among, imports_among, policies_of};
 use crate::attachment::Attachment;
 use crate::chain_use::ChainUse;
 use acl_compile::{acl_between, ascending};
 use config_check::{network_named, node_named};
 use config_types::{Config, Network, Port, Service, Topology};
 use ov_types::{Addr, InstanceId, Items, LowKey, LowValue, NoMemory, ServiceNo};
-use policy_rules::{are_related, imports};
 use route_targets::{circuit_label, port_label};
 use std::alloc::Global;
 use std::collections::{BTreeMap, BTreeSet};
@@ -53,9 +53,10 @@ fn imports_of(
 ) -> Result<Items<InstanceId>, NoMemory>
     ensures { IfOk result (λ list. list ≡ imports_of config.now network.now) }
 {
+    let attached = policies_of(alloc, config, network)?;
     let mut set = BTreeSet::new(alloc);
     for other in config.networks.as_slice() {
-        if imports(config, network, other) {
+        if imports_among(config, &attached, network, other) {
             set.insert(other.id)?;
         }
     }
@@ -177,26 +178,29 @@ fn put_all_circuits(
     Ok(())
 }
 
-/// Whether a network is another, or related to it.
-fn is_around(config: &Config, network: &Network, other: &Network) -> bool
+/// Whether a network is another, or related to it, by the policies that it attaches.
+fn is_around(config: &Config, attached: &Config, network: &Network, other: &Network) -> bool
+    requires { attached.now.policies ≡ filter (attaches network.now) config.now.policies }
     ensures { result ≡ (same_name other.now.name network.now.name || are_related config.now network.now other.now) }
 {
-    other.name == network.name || are_related(config, network, other)
+    other.name == network.name || are_related_among(config, attached, network, other)
 }
 
 /// Puts the access list of a network towards another, where that is the same or related to it.
 fn put_acl(
     alloc: Global,
     config: &Config,
+    attached: &Config,
     from: &Network,
     to: &Network,
     low: &mut Objects,
 ) -> Result<(), NoMemory>
-    requires { IsSound config.now }
+    requires sound { IsSound config.now }
+    requires attached { attached.now.policies ≡ filter (attaches from.now) config.now.policies }
     ensures { OnOk result (low.new.entries
         ≡ with_objects low.old.entries (acl_towards config.now from.now to.now)) }
 {
-    if !is_around(config, from, to) {
+    if !is_around(config, attached, from, to) {
         return Ok(());
     }
     let key = LowKey::Acl {
@@ -218,8 +222,9 @@ fn put_acls(
     ensures { OnOk result (low.new.entries
         ≡ with_objects low.old.entries (flat_map (acl_towards config.now from.now) config.now.networks)) }
 {
+    let attached = policies_of(alloc, config, from)?;
     for to in config.networks.as_slice() {
-        put_acl(alloc, config, from, to, low)?;
+        put_acl(alloc, config, &attached, from, to, low)?;
     }
     Ok(())
 }

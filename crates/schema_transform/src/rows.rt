@@ -1,13 +1,13 @@
 //! The rows of instances' tables.
-ghost use Rattle.std.specs.Prelude.{◌≡◌, ◌==◌, ◌&&◌, ◌<◌, [], flat_map, length, map, IfOk, IfSome, OnOk, IsTrue};
+ghost use Rattle.std.specs.Prelude.{◌≡◌, ◌==◌, ◌&&◌, ◌<◌, ◌++◌, [], filter, flat_map, length, map, IfOk, IfSome, OnOk, IsTrue};
 ghost use Rattle.std.specs.List.{filter_map, list_all, position};
 ghost use Rattle.policy_rules.specs.Related.{imports};
 ghost use Rattle.ov_types.specs.First.{same_name};
 ghost use Rattle.ov_types.specs.Prefix.{contains};
 ghost use Rattle.config_types.specs.Form.{has_port_form};
-ghost use Rattle.transform_model.specs.Tables.{circuit_row, circuits_in, end_row, end_rows, holds_port};
+ghost use Rattle.transform_model.specs.Tables.{circuit_route, circuit_row, circuits_in, end_row, end_rows, held_subnets, holds_port};
 ghost use Rattle.transform_model.specs.Tables.{host_route, hop_rows, instance_table, network_rows, port_row};
-ghost use Rattle.transform_model.specs.Tables.{row_towards, rows_of, subnet_rows, with_rows};
+ghost use Rattle.transform_model.specs.Tables.{row_towards, rows_of, subnet_rows};
 ghost use Rattle.config_check.specs.Finding.{network_numbered};
 ghost use Rattle.route_targets.specs.Numbers.{circuit_instance_of};
 ghost use Rattle.schema_transform.specs.Held.{circuit_of};
@@ -16,6 +16,7 @@ ghost use Rattle.schema_transform.specs.HeldUses.{use_of};
 ghost use Rattle.schema_transform.specs.ByNumber.{AreUses, use_at, use_in, use_rows};
 ghost use Rattle.schema_transform.specs.Sound.{IsSound};
 
+use crate::attached::{imports_among, policies_of};
 use crate::attachment::Attachment;
 use crate::chain_use::ChainUse;
 use crate::hops::{first_hop, last_hop};
@@ -23,7 +24,6 @@ use crate::numbered::{UsesByNumber, use_at};
 use config_check::{network_named, network_numbered, node_named};
 use config_types::{Config, Network, Node, Port, Topology};
 use ov_types::{ControlRows, InstanceId, Items, Name, NoMemory, Prefix, TableRow};
-use policy_rules::imports;
 use route_targets::{circuit_address, circuit_instance, circuit_label, port_label, rd};
 use std::alloc::Global;
 use std::collections::BTreeMap;
@@ -53,12 +53,12 @@ fn host_route(instance: InstanceId, home: &Network, node: &Node, port: &Port) ->
 fn imported_by(alloc: Global, config: &Config, network: &Network) -> Result<Vec<bool>, NoMemory>
     ensures { IfOk result (λ list. list.items ≡ map (imports config.now network.now) config.now.networks) }
 {
-    let others = config.networks.as_slice().iter();
-    Ok(
-        others
-            .map(|other| imports(config, network, other))
-            .collect(alloc)?,
-    )
+    let attached = policies_of(alloc, config, network)?;
+    let mut imported = Vec::new(alloc);
+    for other in config.networks.as_slice() {
+        imported.push(imports_among(config, &attached, network, other))?;
+    }
+    Ok(imported)
 }
 
 /// The place of the first network of a name.
@@ -95,26 +95,38 @@ fn port_row(
     Some(host_route(network.id, home, node, port))
 }
 
-/// Puts the rows of a network's instance.
+/// Appends the rows of a network's instance.
 #[tactic(auto, unfolding(transform_model::specs::Tables::network_rows))]
-fn put_network_rows(
+fn push_network_rows(
     alloc: Global,
     topology: &Topology,
     config: &Config,
     network: &Network,
-    rows: &mut Rows,
+    rows: &mut Vec<Row>,
 ) -> Result<(), NoMemory>
     requires { IsTrue (list_all has_port_form config.now.ports) }
-    ensures { OnOk result (rows.new.entries
-        ≡ with_rows rows.old.entries (network_rows topology.now config.now network.now)) }
+    ensures { OnOk result (rows.new.items
+        ≡ rows.old.items ++ network_rows topology.now config.now network.now) }
 {
     let imported = imported_by(alloc, config, network)?;
     for port in config.ports.as_slice() {
-        if let Some((key, row)) = port_row(topology, config, network, imported.as_slice(), port) {
-            rows.insert(key, row)?;
+        if let Some(row) = port_row(topology, config, network, imported.as_slice(), port) {
+            rows.push(row)?;
         }
     }
     Ok(())
+}
+
+/// In an instance, the route of a prefix to or towards a circuit at a node.
+fn circuit_route(instance: InstanceId, prefix: Prefix, circuit: &Attachment, node: &Node) -> Row
+    ensures { result ≡ circuit_route instance prefix (circuit_of circuit.now) node.now }
+{
+    let row = TableRow {
+        rd: rd(node.address, instance),
+        next_hop: node.address,
+        label: circuit_label(circuit.number),
+    };
+    ((instance, prefix), row)
 }
 
 /// In an instance, the route of a prefix to or towards a circuit.
@@ -127,12 +139,7 @@ fn row_towards(
     ensures { result ≡ row_towards topology.now instance (circuit_of circuit.now) prefix }
 {
     let node = node_named(topology, &circuit.service.node)?;
-    let row = TableRow {
-        rd: rd(node.address, instance),
-        next_hop: node.address,
-        label: circuit_label(circuit.number),
-    };
-    Some(((instance, prefix), row))
+    Some(circuit_route(instance, prefix, circuit, node))
 }
 
 /// Whether a circuit is in an instance.
@@ -150,20 +157,20 @@ fn circuit_row(topology: &Topology, instance: InstanceId, circuit: &Attachment) 
     row_towards(topology, instance, circuit, prefix)
 }
 
-/// Puts the host routes of the circuits in an instance.
-fn put_circuit_rows(
+/// Appends the host routes of the circuits in an instance.
+fn push_circuit_rows(
     topology: &Topology,
     instance: InstanceId,
     circuits: &[Attachment],
-    rows: &mut Rows,
+    rows: &mut Vec<Row>,
 ) -> Result<(), NoMemory>
-    ensures { OnOk result (rows.new.entries ≡ with_rows rows.old.entries
-        (filter_map (circuit_row topology.now instance) (circuits_in instance (map circuit_of circuits.now)))) }
+    ensures { OnOk result (rows.new.items ≡ rows.old.items
+        ++ filter_map (circuit_row topology.now instance) (circuits_in instance (map circuit_of circuits.now))) }
 {
     for circuit in circuits {
         if is_in(circuit, instance) {
-            if let Some((key, row)) = circuit_row(topology, instance, circuit) {
-                rows.insert(key, row)?;
+            if let Some(row) = circuit_row(topology, instance, circuit) {
+                rows.push(row)?;
             }
         }
     }
@@ -191,60 +198,77 @@ fn holds_port(config: &Config, network: &Network, prefix: &Prefix) -> bool
         .any(|port| is_held(port, network, prefix))
 }
 
-/// Puts the subnets of a network that hold a port of it, each towards a circuit.
-fn put_subnet_rows(
-    topology: &Topology,
+/// Appends the subnets of a network that hold a port of it, each towards a circuit at a node.
+fn push_subnet_routes(
     config: &Config,
     instance: InstanceId,
     network: &Network,
     circuit: &Attachment,
-    rows: &mut Rows,
+    node: &Node,
+    rows: &mut Vec<Row>,
 ) -> Result<(), NoMemory>
-    ensures { OnOk result (rows.new.entries ≡ with_rows rows.old.entries
-        (subnet_rows topology.now config.now instance network.now (circuit_of circuit.now))) }
+    ensures { OnOk result (rows.new.items ≡ rows.old.items ++ map
+        (λ s. circuit_route instance s (circuit_of circuit.now) node.now) (held_subnets config.now network.now)) }
 {
     for subnet in network.subnets.as_slice() {
         if holds_port(config, network, subnet) {
-            if let Some((key, row)) = row_towards(topology, instance, circuit, *subnet) {
-                rows.insert(key, row)?;
-            }
+            rows.push(circuit_route(instance, *subnet, circuit, node))?;
         }
     }
     Ok(())
 }
 
-/// Puts the same towards a circuit, where it is in the instance.
-fn put_rows_if_in(
+/// Appends the subnets of a network that hold a port of it, each towards a circuit.
+#[tactic(auto, using(crate::proofs::Nodes::at_node, crate::proofs::Nodes::at_no_node))]
+fn push_subnet_rows(
     topology: &Topology,
     config: &Config,
     instance: InstanceId,
     network: &Network,
     circuit: &Attachment,
-    rows: &mut Rows,
+    rows: &mut Vec<Row>,
 ) -> Result<(), NoMemory>
-    ensures { OnOk result (rows.new.entries ≡ with_rows rows.old.entries
-        (rows_if_in topology.now config.now instance network.now (circuit_of circuit.now))) }
+    ensures { OnOk result (rows.new.items ≡ rows.old.items
+        ++ subnet_rows topology.now config.now instance network.now (circuit_of circuit.now)) }
+{
+    match node_named(topology, &circuit.service.node) {
+        Some(node) => push_subnet_routes(config, instance, network, circuit, node, rows),
+        None => Ok(()),
+    }
+}
+
+/// Appends the same towards a circuit, where it is in the instance.
+fn push_rows_if_in(
+    topology: &Topology,
+    config: &Config,
+    instance: InstanceId,
+    network: &Network,
+    circuit: &Attachment,
+    rows: &mut Vec<Row>,
+) -> Result<(), NoMemory>
+    ensures { OnOk result (rows.new.items ≡ rows.old.items
+        ++ rows_if_in topology.now config.now instance network.now (circuit_of circuit.now)) }
 {
     if !is_in(circuit, instance) {
         return Ok(());
     }
-    put_subnet_rows(topology, config, instance, network, circuit, rows)
+    push_subnet_rows(topology, config, instance, network, circuit, rows)
 }
 
-/// Puts the same towards each of the circuits that are in the instance.
-fn put_rows_towards(
+/// Appends the same towards each of the circuits that are in the instance.
+fn push_rows_towards(
     topology: &Topology,
     config: &Config,
     instance: InstanceId,
     network: &Network,
     circuits: &[Attachment],
-    rows: &mut Rows,
+    rows: &mut Vec<Row>,
 ) -> Result<(), NoMemory>
-    ensures { OnOk result (rows.new.entries ≡ with_rows rows.old.entries
-        (flat_map (rows_if_in topology.now config.now instance network.now) (map circuit_of circuits.now))) }
+    ensures { OnOk result (rows.new.items ≡ rows.old.items
+        ++ flat_map (rows_if_in topology.now config.now instance network.now) (map circuit_of circuits.now)) }
 {
     for circuit in circuits {
-        put_rows_if_in(topology, config, instance, network, circuit, rows)?;
+        push_rows_if_in(topology, config, instance, network, circuit, rows)?;
     }
     Ok(())
 }
@@ -261,49 +285,49 @@ fn end_row(topology: &Topology, instance: InstanceId, network: &Network, port: &
     Some(host_route(instance, network, node, port))
 }
 
-/// Puts the routes to the ports of a network, where an instance is at this end of a chain.
-fn put_end_rows(
+/// Appends the routes to the ports of a network, where an instance is at this end of a chain.
+fn push_end_rows(
     topology: &Topology,
     config: &Config,
     instance: InstanceId,
     end: InstanceId,
     network: &Network,
-    rows: &mut Rows,
+    rows: &mut Vec<Row>,
 ) -> Result<(), NoMemory>
     requires { IsTrue (list_all has_port_form config.now.ports) }
-    ensures { OnOk result (rows.new.entries ≡ with_rows rows.old.entries
-        (end_rows topology.now config.now instance end network.now)) }
+    ensures { OnOk result (rows.new.items ≡ rows.old.items
+        ++ end_rows topology.now config.now instance end network.now) }
 {
     if instance.0 != end.0 {
         return Ok(());
     }
     for port in config.ports.as_slice() {
-        if let Some((key, row)) = end_row(topology, instance, network, port) {
-            rows.insert(key, row)?;
+        if let Some(row) = end_row(topology, instance, network, port) {
+            rows.push(row)?;
         }
     }
     Ok(())
 }
 
-/// Puts what a use gives an instance.
-fn put_hop_rows(
+/// Appends what a use gives an instance.
+fn push_hop_rows(
     topology: &Topology,
     config: &Config,
     instance: InstanceId,
     found: &ChainUse,
-    rows: &mut Rows,
+    rows: &mut Vec<Row>,
 ) -> Result<(), NoMemory>
     requires { IsTrue (list_all has_port_form config.now.ports) }
-    ensures { OnOk result (rows.new.entries ≡ with_rows rows.old.entries
-        (hop_rows topology.now config.now instance (use_of found.now))) }
+    ensures { OnOk result (rows.new.items ≡ rows.old.items
+        ++ hop_rows topology.now config.now instance (use_of found.now)) }
 {
     let lefts = found.left_circuits.as_slice();
     let rights = found.right_circuits.as_slice();
-    put_circuit_rows(topology, instance, lefts, rows)?;
-    put_circuit_rows(topology, instance, rights, rows)?;
-    put_rows_towards(topology, config, instance, &found.right, lefts, rows)?;
-    put_rows_towards(topology, config, instance, &found.left, rights, rows)?;
-    put_end_rows(
+    push_circuit_rows(topology, instance, lefts, rows)?;
+    push_circuit_rows(topology, instance, rights, rows)?;
+    push_rows_towards(topology, config, instance, &found.right, lefts, rows)?;
+    push_rows_towards(topology, config, instance, &found.left, rights, rows)?;
+    push_end_rows(
         topology,
         config,
         instance,
@@ -311,7 +335,7 @@ fn put_hop_rows(
         &found.left,
         rows,
     )?;
-    put_end_rows(
+    push_end_rows(
         topology,
         config,
         instance,
@@ -322,60 +346,59 @@ fn put_hop_rows(
     Ok(())
 }
 
-/// Puts what the use that an instance is a hop of gives it.
-fn put_use_rows(
+/// Appends what the use that an instance is a hop of gives it.
+fn push_use_rows(
     topology: &Topology,
     config: &Config,
     instance: InstanceId,
     numbered: &UsesByNumber,
-    rows: &mut Rows,
+    rows: &mut Vec<Row>,
 ) -> Result<(), NoMemory>
     requires { IsTrue (list_all has_port_form config.now.ports) }
-    ensures { OnOk result (rows.new.entries ≡ with_rows rows.old.entries
-        (use_rows topology.now config.now instance (use_at (use_in numbered.now.entries) instance))) }
+    ensures { OnOk result (rows.new.items ≡ rows.old.items
+        ++ use_rows topology.now config.now instance (use_at (use_in numbered.now.entries) instance)) }
 {
     match use_at(numbered, instance) {
-        Some(found) => put_hop_rows(topology, config, instance, found, rows),
+        Some(found) => push_hop_rows(topology, config, instance, found, rows),
         None => Ok(()),
     }
 }
 
-/// Puts the rows of the network with an instance's number.
-fn put_numbered_rows(
+/// Appends the rows of the network with an instance's number.
+fn push_numbered_rows(
     alloc: Global,
     topology: &Topology,
     config: &Config,
     instance: InstanceId,
-    rows: &mut Rows,
+    rows: &mut Vec<Row>,
 ) -> Result<(), NoMemory>
     requires { IsTrue (list_all has_port_form config.now.ports) }
-    ensures { OnOk result (rows.new.entries ≡ with_rows rows.old.entries
-        (rows_of topology.now config.now (network_numbered config.now instance.0))) }
+    ensures { OnOk result (rows.new.items ≡ rows.old.items
+        ++ rows_of topology.now config.now (network_numbered config.now instance.0)) }
 {
     match network_numbered(config, instance) {
-        Some(network) => put_network_rows(alloc, topology, config, network, rows),
+        Some(network) => push_network_rows(alloc, topology, config, network, rows),
         None => Ok(()),
     }
 }
 
-/// Puts the table of an instance.
+/// The table of an instance, in the order in which its rows are put.
 #[tactic(auto, using(crate::proofs::Formed::ports_formed))]
-pub(crate) fn put_table(
+pub(crate) fn table_of(
     alloc: Global,
     topology: &Topology,
     config: &Config,
     numbered: &UsesByNumber,
     instance: InstanceId,
-    rows: &mut Rows,
-) -> Result<(), NoMemory>
+) -> Result<Items<Row>, NoMemory>
     requires sound { IsSound config.now }
     requires uses { AreUses numbered.now.entries config.now }
-    ensures { OnOk result (rows.new.entries ≡ with_rows rows.old.entries
-        (instance_table topology.now config.now instance)) }
+    ensures { IfOk result (λ table. table ≡ instance_table topology.now config.now instance) }
 {
-    put_numbered_rows(alloc, topology, config, instance, rows)?;
-    put_use_rows(topology, config, instance, numbered, rows)?;
-    Ok(())
+    let mut rows = Vec::new(alloc);
+    push_numbered_rows(alloc, topology, config, instance, &mut rows)?;
+    push_use_rows(topology, config, instance, numbered, &mut rows)?;
+    Ok(Items::from_vec(rows))
 }
 
 /// The entries of a map, in the order of their keys.

@@ -15,11 +15,13 @@ ghost use Rattle.transform_model.specs.Tables.{control_rows, instances};
 ghost use Rattle.transform_model.specs.Uses.{hops, uses};
 ghost use Rattle.schema_transform.specs.HeldUses.{use_of};
 ghost use Rattle.schema_transform.specs.ByNumber.{AreUses};
+ghost use Rattle.schema_transform.specs.Kept.{AreTables};
 ghost use Rattle.schema_transform.specs.Sound.{IsSmall, IsSound};
 
 use crate::agents::{agent_rows, tables_of};
 use crate::chain_use::ChainUse;
 use crate::hops::first_hop;
+use crate::kept::{KeptTables, kept_tables};
 use crate::numbered::{UsesByNumber, by_number};
 use crate::objects::objects_of;
 use crate::rows::entries_of;
@@ -116,16 +118,17 @@ fn control_rows(
     alloc: Global,
     topology: &Topology,
     config: &Config,
-    chain_uses: &[ChainUse],
     numbered: &UsesByNumber,
+    kept: &KeptTables,
+    instances: &[InstanceId],
 ) -> Result<ControlRows, NoMemory>
     requires sound { IsSound config.now }
-    requires uses { map use_of chain_uses.now ≡ uses config.now }
-    requires numbers { AreUses numbered.now.entries config.now }
+    requires uses { AreUses numbered.now.entries config.now }
+    requires kept { AreTables topology.now config.now kept.now.entries }
+    requires instances { instances.now ≡ instances config.now }
     ensures { IfOk result (λ list. list ≡ control_rows topology.now config.now) }
 {
-    let instances = instances_of(alloc, config, chain_uses)?;
-    let rows = tables_of(alloc, topology, config, numbered, instances.as_slice())?;
+    let rows = tables_of(alloc, topology, config, numbered, kept, instances)?;
     entries_of(alloc, &rows)
 }
 
@@ -156,10 +159,12 @@ fn agents_of(
     topology: &Topology,
     config: &Config,
     numbered: &UsesByNumber,
+    kept: &KeptTables,
     low: &[(LowKey, LowValue)],
 ) -> Result<Items<AgentRows>, NoMemory>
     requires sound { IsSound config.now }
     requires uses { AreUses numbered.now.entries config.now }
+    requires kept { AreTables topology.now config.now kept.now.entries }
     requires low { low.now ≡ low_objects topology.now config.now }
     requires small { All (λ e. IsSmall e.1) low.now }
     ensures { IfOk result (λ list. list
@@ -167,7 +172,7 @@ fn agents_of(
 {
     let mut agents = Items::new(alloc);
     for node in topology.nodes.as_slice() {
-        agents.push(agent_rows(alloc, topology, config, numbered, low, node.address)?)?;
+        agents.push(agent_rows(alloc, topology, config, numbered, kept, low, node.address)?)?;
     }
     Ok(agents)
 }
@@ -182,10 +187,19 @@ fn rows_of_nodes(alloc: Global, topology: &Topology, config: &Config) -> Result<
     let chain_uses = uses_in_effect(alloc, config)?;
     let low = low_of(alloc, topology, config, chain_uses.as_slice())?;
     let numbered = by_number(alloc, chain_uses.as_slice())?;
-    let rows = control_rows(alloc, topology, config, chain_uses.as_slice(), &numbered)?;
+    let instances = instances_of(alloc, config, chain_uses.as_slice())?;
+    let kept = kept_tables(alloc, topology, config, &numbered, instances.as_slice())?;
+    let rows = control_rows(
+        alloc,
+        topology,
+        config,
+        &numbered,
+        &kept,
+        instances.as_slice(),
+    )?;
     Ok(Compiled {
         controls: copies(alloc, &rows, topology.controllers.as_slice())?,
-        agents: agents_of(alloc, topology, config, &numbered, low.as_slice())?,
+        agents: agents_of(alloc, topology, config, &numbered, &kept, low.as_slice())?,
     })
 }
 
