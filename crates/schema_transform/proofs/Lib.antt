@@ -8,5 +8,6 @@ pub mod Small
 pub mod Forwarding
 pub mod ByNumber
 pub mod Homes
-pub mod Attached
+pub mod ByAttached
 pub mod Nodes
+pub mod Keeping

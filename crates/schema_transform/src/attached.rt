@@ -2,10 +2,16 @@
 ghost use Rattle.std.specs.Prelude.{◌≡◌, ◌++◌, filter, IfOk};
 ghost use Rattle.policy_rules.specs.Related.{attaches, are_related, imports};
 
-use config_types::{Config, Network};
+use config_types::{Config, Network, Policy};
 use ov_types::{Items, NoMemory};
 use policy_rules::{are_related, attaches, imports};
 use std::alloc::Global;
+
+fn copy_of(policy: &Policy) -> Result<Policy, NoMemory>
+    ensures { IfOk result (λ copy. copy ≡ policy.now) }
+{
+    Ok(policy.clone()?)
+}
 
 /// A configuration of the policies that a network attaches alone, in the document's order.
 pub(crate) fn policies_of(
@@ -18,7 +24,7 @@ pub(crate) fn policies_of(
     let mut policies = Items::new(alloc);
     for policy in config.policies.as_slice() {
         if attaches(network, policy) {
-            policies.push(policy.clone()?)?;
+            policies.push(copy_of(policy)?)?;
         }
     }
     Ok(Config {
@@ -31,7 +37,6 @@ pub(crate) fn policies_of(
 }
 
 /// Whether a network imports another, by the policies that it attaches.
-#[tactic(auto, using(crate::proofs::Attached::imports_are))]
 pub(crate) fn imports_among(
     config: &Config,
     attached: &Config,
@@ -45,7 +50,6 @@ pub(crate) fn imports_among(
 }
 
 /// Whether a network is related to another, by the policies that it attaches.
-#[tactic(auto, using(crate::proofs::Attached::relations_are))]
 pub(crate) fn are_related_among(
     config: &Config,
     attached: &Config,

@@ -72,13 +72,14 @@ fn kept_of(kept: &KeptTables, instance: InstanceId) -> Option<&KeptTable>
 fn put_rows(table: &[Row], rows: &mut Rows) -> Result<(), NoMemory>
     ensures { OnOk result (rows.new.entries ≡ with_rows rows.old.entries table.now) }
 {
-    for (key, row) in table {
-        rows.insert(*key, *row)?;
+    for row in table {
+        rows.insert(row.0, row.1)?;
     }
     Ok(())
 }
 
 /// Puts the table of an instance: as it is kept, or else made now.
+#[tactic(auto, using(crate::proofs::Keeping::kept_is))]
 pub(crate) fn put_table(
     alloc: Global,
     topology: &Topology,
