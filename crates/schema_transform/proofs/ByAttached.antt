@@ -6,7 +6,8 @@ use Rattle.ov_types.specs.First.{same_name}
 use Rattle.config_types.specs.declared.config.Config.{Config}
 use Rattle.config_types.specs.declared.config.Network.{Network}
 use Rattle.config_types.specs.declared.config.Policy.{Policy}
-use Rattle.policy_rules.specs.Related.{NumberedRule, are_related, attaches, by_sequence, fits, imports, lets_through}
+use Rattle.policy_rules.specs.declared.numbered.NumberedRule.{NumberedRule}
+use Rattle.policy_rules.specs.Related.{are_related, attaches, by_sequence, fits, imports, lets_through}
 use Rattle.policy_rules.specs.Related.{numbered_rules, passes, rules_between}
 
 -- of what passes one test, both tests keep what they keep of all
