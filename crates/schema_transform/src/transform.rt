@@ -120,15 +120,15 @@ fn control_rows(
     config: &Config,
     numbered: &UsesByNumber,
     kept: &KeptTables,
-    instances: &[InstanceId],
+    every_instance: &[InstanceId],
 ) -> Result<ControlRows, NoMemory>
     requires sound { IsSound config.now }
     requires uses { AreUses numbered.now.entries config.now }
     requires kept { AreTables topology.now config.now kept.now.entries }
-    requires instances { instances.now ≡ instances config.now }
+    requires instances { every_instance.now ≡ instances config.now }
     ensures { IfOk result (λ list. list ≡ control_rows topology.now config.now) }
 {
-    let rows = tables_of(alloc, topology, config, numbered, kept, instances)?;
+    let rows = tables_of(alloc, topology, config, numbered, kept, every_instance)?;
     entries_of(alloc, &rows)
 }
 
