@@ -9,7 +9,7 @@ use Rattle.config_types.specs.declared.config.Network.{Network}
 use Rattle.config_types.specs.declared.topology.Node.{Node}
 use Rattle.config_types.specs.declared.topology.Topology.{Topology}
 use Rattle.config_check.specs.Finding.{node_named}
-use Rattle.transform_model.specs.Tables.{Row, circuit_route, held_subnets, subnet_rows}
+use Rattle.transform_model.specs.Tables.{circuit_route, held_subnets, subnet_rows}
 use Rattle.transform_model.specs.Uses.{Circuit}
 
 all_some : {A B D : Type 0} (f : A → D → B) (d : D) (xs : List A) → filter_map (λ x. option_map (f x) (Some d)) xs ≡ map (λ x. f x d) xs

@@ -219,7 +219,6 @@ fn push_subnet_routes(
 }
 
 /// Appends the subnets of a network that hold a port of it, each towards a circuit.
-#[tactic(auto, using(crate::proofs::Nodes::at_node, crate::proofs::Nodes::at_no_node))]
 fn push_subnet_rows(
     topology: &Topology,
     config: &Config,

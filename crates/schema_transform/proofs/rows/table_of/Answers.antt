@@ -5,4 +5,4 @@ use Rattle.schema_transform.proofs.rows.table_of.Goals as goal
 pub returns : goal.returns
 returns c =
     table_made c.args.topology.now c.args.config.now c.args.instance (use_in c.args.numbered.now.entries) _ _ _ c.requires.sound
-    c.requires.uses c.new-rows.ensures.empty c.in_ok-push_numbered_rows.ensures c.in_ok-push_use_rows.ensures
+    c.requires.uses c.new-rows.ensures.items c.in_ok-push_numbered_rows.ensures c.in_ok-push_use_rows.ensures
