@@ -1,5 +1,5 @@
 -- What is found among the tables that are kept.
-use Rattle.std.proofs.Common.{◌≡◌, List, get_or, sym, ap, subst, ◌∙◌}
+use Rattle.std.proofs.Common.{◌≡◌, List, sym, ap, subst, ◌∙◌}
 use Rattle.std.specs.List.{IsAmong}
 use Rattle.std.specs.Map.{values_of}
 use Rattle.ov_types.specs.declared.numbers.InstanceId.{InstanceId}
