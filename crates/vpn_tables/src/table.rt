@@ -18,7 +18,9 @@ use crate::least::{offer, rows};
 use crate::routes::Route;
 use crate::tables::{Agent, VpnTables};
 use ov_sync::SyncIn;
-use ov_types::{InstanceId, Label, LowKey, NoMemory, Prefix, TableRow, Target, UpKey, VpnKey, VpnRoute};
+use ov_types::{
+    InstanceId, Label, LowKey, NoMemory, Prefix, TableRow, Target, UpKey, VpnKey, VpnRoute,
+};
 use path_select::Path;
 use route_targets::{hop_of, target};
 
