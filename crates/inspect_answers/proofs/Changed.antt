@@ -9,6 +9,8 @@ use Rattle.std.specs.Io.KnownBytes.{Appends}
 use Rattle.config_check.specs.Checked.{Checked}
 use Rattle.inspect_answers.specs.Changes.{IsValidIn, TookDifferences}
 use Rattle.inspect_changes.specs.DifferenceLines.{lists_text}
+use Rattle.inspect_json.specs.ChangeLines.{lists_in}
+use Rattle.inspect_json.specs.declared.form.Form.{Form}
 use Rattle.inspect_answers.specs.Differences.{SaysWhether, Tells}
 use Rattle.inspect_changes.specs.Fates.{all_differences}
 use Rattle.inspect_changes.specs.Objects.{gone}
@@ -32,11 +34,11 @@ otherwise Differs text h = ((λ e. h), (λ n. refl))
 otherwise (UnfitBefore r) text h = absurd h
 otherwise (UnfitAfter r) text h = absurd h
 
-pub took : (found : Comparison) (v w : Checked) (first second : List ℕ) (old new : Option (List ℕ)) → IsValidIn first v → IsValidIn second w
+pub took : (form : Form) (found : Comparison) (v w : Checked) (first second : List ℕ) (old new : Option (List ℕ)) → IsValidIn first v → IsValidIn second w
     → SaysWhether found (lists_text (gone v.config w.config) (gone w.config v.config) (all_differences v.config w.config))
-    → Appends old new (lists_text (gone v.config w.config) (gone w.config v.config) (all_differences v.config w.config))
-    → TookDifferences (status_found found) first second old new
-took found v w first second old new read_first read_second says taken =
+    → Appends old new (lists_in form v.config w.config (gone v.config w.config) (gone w.config v.config) (all_differences v.config w.config))
+    → TookDifferences form (status_found found) first second old new
+took form found v w first second old new read_first read_second says taken =
     let c = v.config in
     let d = w.config in
     let text : List ℕ = lists_text (gone c d) (gone d c) (all_differences c d) in

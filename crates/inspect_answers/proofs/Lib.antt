@@ -5,6 +5,8 @@ mod Counting
 mod Meeting
 mod Otherwise
 mod Taken
+mod NoFloats
+mod ExpectReadBack
 mod TookIdle
 mod TookReasons
 mod JudgedEdits

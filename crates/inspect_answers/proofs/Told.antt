@@ -21,8 +21,8 @@ use Rattle.policy_rules.specs.declared.matching.Decision.{Decision}
 use Rattle.policy_rules.proofs.Lists.{joined_is, is_joined, is_mapped, mapped_is}
 use Rattle.policy_regions.specs.Parts.{IsTuple}
 use Rattle.inspect_answers.specs.Answers.{Answer, IsAnswer, WasGiven, answer_unless, judged, missing_of, of_json, ways_answer, ways_reading, ways_value}
-use Rattle.inspect_changes.specs.Lines.{is_asked, network_text, pair_text, way_line, ways_text}
-use Rattle.inspect_answers.specs.Promise.{IsAskedFor, IsLetBetween, IsWrittenIn, Line, Tells, TookWays, line_text, lines_of, network_lines, pair_lines}
+use Rattle.inspect_changes.specs.Lines.{is_asked}
+use Rattle.inspect_answers.specs.Promise.{IsAskedFor, IsLetBetween, IsWrittenIn, Line, Tells, TookWays, line_in, lines_of, network_lines, pair_lines}
 use Rattle.inspect_answers.specs.Runs.{status_of}
 use Rattle.inspect_changes.specs.Ways.{IsLetThrough, ways_between}
 use Rattle.inspect_changes.specs.declared.pairs.Pairs.{Pairs}
@@ -33,6 +33,8 @@ use Rattle.inspect_answers.specs.declared.verdict.Verdict.TheVariants.{Good}
 use Rattle.inspect_changes.specs.declared.way.Passage.{Passage}
 use Rattle.inspect_changes.specs.declared.way.Way.{Way}
 use Rattle.inspect_changes.proofs.Exact.{let_through, on_one, on_one_at_most}
+use Rattle.inspect_json.specs.WayLines.{network_in, pair_in, way_in, ways_in}
+use Rattle.inspect_json.specs.declared.form.Form.{Form}
 
 -- the text
 
@@ -42,19 +44,19 @@ joined_texts f g h each [] = refl
 joined_texts f g h each (x ∷ xs) =
     (λ i. each x i ++ joined_texts f g h each xs i) ∙ sym (flat_map-append f (g x) (flat_map g xs))
 
-text_of_pair : (pairs : Pairs) (c : Config) (a b : Network) → pair_text pairs c a b ≡ flat_map line_text (pair_lines pairs c a b)
-text_of_pair pairs c a b =
-    elim (is_asked pairs a b) as (λ q. cond q (flat_map (way_line a.name b.name) (ways_between c a b)) []
-    ≡ flat_map line_text (cond q (map (λ (w : Way). record { from = a; to = b; way = w }) (ways_between c a b)) [])) [
-      | true ↦ sym (flat_map-map line_text (λ (w : Way). record { from = a; to = b; way = w }) (ways_between c a b))
+text_of_pair : (form : Form) (pairs : Pairs) (c : Config) (a b : Network) → pair_in form pairs c a b ≡ flat_map (line_in form c) (pair_lines pairs c a b)
+text_of_pair form pairs c a b =
+    elim (is_asked pairs a b) as (λ q. cond q (flat_map (way_in form c a.name b.name) (ways_between c a b)) []
+    ≡ flat_map (line_in form c) (cond q (map (λ (w : Way). record { from = a; to = b; way = w }) (ways_between c a b)) [])) [
+      | true ↦ sym (flat_map-map (line_in form c) (λ (w : Way). record { from = a; to = b; way = w }) (ways_between c a b))
       | false ↦ refl
     ]
 
-pub text_of_lines : (pairs : Pairs) (c : Config) → ways_text pairs c ≡ flat_map line_text (lines_of pairs c)
-unfolding ways_text
-text_of_lines pairs c =
-    joined_texts line_text (network_lines pairs c) (network_text pairs c)
-    (λ a. joined_texts line_text (pair_lines pairs c a) (pair_text pairs c a) (text_of_pair pairs c a) c.networks) c.networks
+pub text_of_lines : (form : Form) (pairs : Pairs) (c : Config) → ways_in form pairs c ≡ flat_map (line_in form c) (lines_of pairs c)
+unfolding ways_in
+text_of_lines form pairs c =
+    joined_texts (line_in form c) (network_lines pairs c) (network_in form pairs c)
+    (λ a. joined_texts (line_in form c) (pair_lines pairs c a) (pair_in form pairs c a) (text_of_pair form pairs c a) c.networks) c.networks
 
 -- what is asked for
 
@@ -150,11 +152,11 @@ is_told pairs c a b t d passage h between =
 -- the input
 
 -- a valid configuration was read, and its ways are the text
-pub record IsGood (pairs : Pairs) (octets : List ℕ) : Type 0 where
+pub record IsGood (form : Form) (pairs : Pairs) (octets : List ℕ) : Type 0 where
   pub input : CompileInput
   pub written : IsWrittenIn octets input
   pub valid : first_broken input.topology input.config ≡ None
-  pub is : ways_answer pairs octets ≡ judged (answer_good (ways_text pairs input.config))
+  pub is : ways_answer form pairs octets ≡ judged (answer_good (ways_in form pairs input.config))
 
 by_answer : (broken missing : Option Refusal) (text : List ℕ) → IsAnswer (answer_unless broken (judged (answer_checked missing text))).verdict
     → (broken ≡ None) × (answer_unless broken (judged (answer_checked missing text)) ≡ judged (answer_good text))
@@ -162,29 +164,29 @@ by_answer (Some r) missing text h = absurd h
 by_answer None (Some r) text h = absurd h
 by_answer None None text h = (refl, refl)
 
-by_reading : (pairs : Pairs) (octets : List ℕ) (d : Data) → json_of octets ≡ Some d → (r : Result CompileInput Fault) → compile_at [] d ≡ r
-    → ways_answer pairs octets ≡ ways_reading pairs r → IsAnswer (ways_reading pairs r).verdict → IsGood pairs octets
-by_reading pairs octets d e (Err f) read is h = absurd h
-by_reading pairs octets d e (Ok p) read is h =
-    let parts = by_answer (first_broken p.topology p.config) (missing_of pairs p.config) (ways_text pairs p.config) h in
+by_reading : (form : Form) (pairs : Pairs) (octets : List ℕ) (d : Data) → json_of octets ≡ Some d → (r : Result CompileInput Fault) → compile_at [] d ≡ r
+    → ways_answer form pairs octets ≡ ways_reading form pairs r → IsAnswer (ways_reading form pairs r).verdict → IsGood form pairs octets
+by_reading form pairs octets d e (Err f) read is h = absurd h
+by_reading form pairs octets d e (Ok p) read is h =
+    let parts = by_answer (first_broken p.topology p.config) (missing_of pairs p.config) (ways_in form pairs p.config) h in
     record { input = p; written = (d, e, read); valid = parts.0; is = is ∙ parts.1 }
 
-by_json : (pairs : Pairs) (octets : List ℕ) (o : Option Data) → json_of octets ≡ o → ways_answer pairs octets ≡ of_json (ways_value pairs) o
-    → IsAnswer (of_json (ways_value pairs) o).verdict → IsGood pairs octets
+by_json : (form : Form) (pairs : Pairs) (octets : List ℕ) (o : Option Data) → json_of octets ≡ o → ways_answer form pairs octets ≡ of_json (ways_value form pairs) o
+    → IsAnswer (of_json (ways_value form pairs) o).verdict → IsGood form pairs octets
 unfolding ways_value
-by_json pairs octets None e is h = absurd h
-by_json pairs octets (Some d) e is h = by_reading pairs octets d e (compile_at [] d) refl is h
+by_json form pairs octets None e is h = absurd h
+by_json form pairs octets (Some d) e is h = by_reading form pairs octets d e (compile_at [] d) refl is h
 
-is_good : (pairs : Pairs) (octets : List ℕ) → IsAnswer (ways_answer pairs octets).verdict → IsGood pairs octets
+is_good : (form : Form) (pairs : Pairs) (octets : List ℕ) → IsAnswer (ways_answer form pairs octets).verdict → IsGood form pairs octets
 unfolding ways_answer
-is_good pairs octets h = by_json pairs octets (json_of octets) refl refl h
+is_good form pairs octets h = by_json form pairs octets (json_of octets) refl refl h
 
-pub took_ways : (pairs : Pairs) (octets : List ℕ) (verdict : Verdict) (old new : Option (List ℕ)) → WasGiven (ways_answer pairs octets) verdict old new
-    → IsAnswer verdict → (status_of verdict ≡ Ended.Done) × TookWays pairs octets old new
-took_ways pairs octets verdict old new given answers =
-    let good = is_good pairs octets (subst IsAnswer given.is answers) in
-    let same : (ways_answer pairs octets).text ≡ flat_map line_text (lines_of pairs good.input.config) =
-    ap (λ (a : Answer). a.text) good.is ∙ text_of_lines pairs good.input.config in
+pub took_ways : (form : Form) (pairs : Pairs) (octets : List ℕ) (verdict : Verdict) (old new : Option (List ℕ)) → WasGiven (ways_answer form pairs octets) verdict old new
+    → IsAnswer verdict → (status_of verdict ≡ Ended.Done) × TookWays form pairs octets old new
+took_ways form pairs octets verdict old new given answers =
+    let good = is_good form pairs octets (subst IsAnswer given.is answers) in
+    let same : (ways_answer form pairs octets).text ≡ flat_map (line_in form good.input.config) (lines_of pairs good.input.config) =
+    ap (λ (a : Answer). a.text) good.is ∙ text_of_lines form pairs good.input.config in
     let verdict_is : verdict ≡ Good = given.is ∙ ap (λ (a : Answer). a.verdict) good.is in (
       ap status_of verdict_is,
       record {

@@ -11,7 +11,7 @@ use Rattle.config_check.specs.declared.refusal.Refusal.{Refusal}
 use Rattle.compile_answers.specs.Answers.{answer_good}
 use Rattle.inspect_answers.specs.Answers.{Answer, IsAnswer, WasGiven, answer_unless, judged, of_json, unused_answer, unused_reading, unused_value}
 use Rattle.inspect_rules.specs.Idle.{idle}
-use Rattle.inspect_answers.specs.IdleLines.{idle_text}
+use Rattle.inspect_answers.specs.IdleLines.{idle_in}
 use Rattle.inspect_answers.specs.Unused.{TookUnused}
 use Rattle.inspect_answers.specs.Promise.{IsWrittenIn}
 use Rattle.inspect_answers.specs.Runs.{status_of}
@@ -19,40 +19,41 @@ use Rattle.inspect_answers.specs.declared.top.Status.TheVariants as Ended
 use Rattle.inspect_answers.specs.declared.verdict.Verdict.{Verdict}
 use Rattle.inspect_answers.specs.declared.verdict.Verdict.TheVariants.{Good}
 use Rattle.inspect_rules.proofs.Unneeded.{all_idle}
+use Rattle.inspect_json.specs.declared.form.Form.{Form}
 
 -- a valid configuration was read, and what is idle of it is the text
-record IsGood (octets : List ℕ) : Type 0 where
+record IsGood (form : Form) (octets : List ℕ) : Type 0 where
   pub input : CompileInput
   pub written : IsWrittenIn octets input
   pub valid : first_broken input.topology input.config ≡ None
-  pub is : unused_answer octets ≡ judged (answer_good (idle_text input.config))
+  pub is : unused_answer form octets ≡ judged (answer_good (idle_in form input.config))
 
 by_answer : (broken : Option Refusal) (answer : Answer) → IsAnswer (answer_unless broken answer).verdict
     → (broken ≡ None) × (answer_unless broken answer ≡ answer)
 by_answer (Some r) answer h = absurd h
 by_answer None answer h = (refl, refl)
 
-by_reading : (octets : List ℕ) (d : Data) → json_of octets ≡ Some d → (r : Result CompileInput Fault) → compile_at [] d ≡ r
-    → unused_answer octets ≡ unused_reading r → IsAnswer (unused_reading r).verdict → IsGood octets
-by_reading octets d e (Err f) read is h = absurd h
-by_reading octets d e (Ok p) read is h =
-    let parts = by_answer (first_broken p.topology p.config) (judged (answer_good (idle_text p.config))) h in
+by_reading : (form : Form) (octets : List ℕ) (d : Data) → json_of octets ≡ Some d → (r : Result CompileInput Fault) → compile_at [] d ≡ r
+    → unused_answer form octets ≡ unused_reading form r → IsAnswer (unused_reading form r).verdict → IsGood form octets
+by_reading form octets d e (Err f) read is h = absurd h
+by_reading form octets d e (Ok p) read is h =
+    let parts = by_answer (first_broken p.topology p.config) (judged (answer_good (idle_in form p.config))) h in
     record { input = p; written = (d, e, read); valid = parts.0; is = is ∙ parts.1 }
 
-by_json : (octets : List ℕ) (o : Option Data) → json_of octets ≡ o → unused_answer octets ≡ of_json unused_value o
-    → IsAnswer (of_json unused_value o).verdict → IsGood octets
+by_json : (form : Form) (octets : List ℕ) (o : Option Data) → json_of octets ≡ o → unused_answer form octets ≡ of_json (unused_value form) o
+    → IsAnswer (of_json (unused_value form) o).verdict → IsGood form octets
 unfolding unused_value
-by_json octets None e is h = absurd h
-by_json octets (Some d) e is h = by_reading octets d e (compile_at [] d) refl is h
+by_json form octets None e is h = absurd h
+by_json form octets (Some d) e is h = by_reading form octets d e (compile_at [] d) refl is h
 
-is_good : (octets : List ℕ) → IsAnswer (unused_answer octets).verdict → IsGood octets
+is_good : (form : Form) (octets : List ℕ) → IsAnswer (unused_answer form octets).verdict → IsGood form octets
 unfolding unused_answer
-is_good octets h = by_json octets (json_of octets) refl refl h
+is_good form octets h = by_json form octets (json_of octets) refl refl h
 
-pub took_unused : (octets : List ℕ) (verdict : Verdict) (old new : Option (List ℕ)) → WasGiven (unused_answer octets) verdict old new
-    → IsAnswer verdict → (status_of verdict ≡ Ended.Done) × TookUnused octets old new
-took_unused octets verdict old new given answers =
-    let good = is_good octets (subst IsAnswer given.is answers) in
+pub took_unused : (form : Form) (octets : List ℕ) (verdict : Verdict) (old new : Option (List ℕ)) → WasGiven (unused_answer form octets) verdict old new
+    → IsAnswer verdict → (status_of verdict ≡ Ended.Done) × TookUnused form octets old new
+took_unused form octets verdict old new given answers =
+    let good = is_good form octets (subst IsAnswer given.is answers) in
     let verdict_is : verdict ≡ Good = given.is ∙ ap (λ (a : Answer). a.verdict) good.is in (
       ap status_of verdict_is,
       record {

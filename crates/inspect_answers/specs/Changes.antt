@@ -13,6 +13,8 @@ use Rattle.config_check.specs.Rules.{first_broken}
 use Rattle.policy_regions.specs.Parts.{IsTuple}
 use Rattle.inspect_changes.specs.Deliveries.{GoesBetween, delivery_in}
 use Rattle.inspect_changes.specs.DifferenceLines.{lists_text}
+use Rattle.inspect_json.specs.ChangeLines.{lists_in}
+use Rattle.inspect_json.specs.declared.form.Form.{Form}
 use Rattle.inspect_changes.specs.Fates.{passage}
 use Rattle.inspect_changes.specs.Objects.{objects_of}
 use Rattle.inspect_answers.specs.Promise.{IsWrittenIn}
@@ -38,11 +40,11 @@ pub record IsValidIn (octets : List ℕ) (v : Checked) : Type 0 where
 abbrev pub AreGone : List Object → Checked → Checked → Type 0
 AreGone went v w = (o : Object) → Contains went o ↔ (Contains (objects_of v.config) o × ¬ Contains (objects_of w.config) o)
 
--- two inputs have valid configurations, and these lines were taken: of the objects that one of the two has alone, and of
--- differences. Where no line of what went names a packet's networks and ports, whether it is delivered to its port, or by
+-- two inputs have valid configurations, and these lines were taken, in the form that is asked for: of the objects that one of
+-- the two has alone, and of differences. Where no line of what went names a packet's networks and ports, whether it is delivered to its port, or by
 -- which services, differs exactly where a line of its networks holds it; then it was delivered as that line says, and is;
 -- no two lines of two networks hold one packet; and the run ends so where there is no line, and so where there is one
-pub record TookDifferences (status : Status) (first second : List ℕ) (old new : Option (List ℕ)) : Type 0 where
+pub record TookDifferences (form : Form) (status : Status) (first second : List ℕ) (old new : Option (List ℕ)) : Type 0 where
   pub before : Checked
   pub after : Checked
   pub before_read : IsValidIn first before
@@ -50,7 +52,7 @@ pub record TookDifferences (status : Status) (first second : List ℕ) (old new 
   pub went : List Object
   pub came : List Object
   pub lines : List Difference
-  pub taken : Appends old new (lists_text went came lines)
+  pub taken : Appends old new (lists_in form before.config after.config went came lines)
   pub went_exact : AreGone went before after
   pub came_exact : AreGone came after before
   pub exact : (p : Packet) (a b : Network) (number : ℕ) → GoesBetween before.config p a b number → IsUnnamed went before.config p a b number

@@ -1,5 +1,6 @@
 pub mod Expectations
 pub mod ExpectDocuments
+pub mod ExpectValues
 pub mod Expecting
 pub mod IdleLines
 pub mod Explained

@@ -13,9 +13,10 @@ use Rattle.config_types.specs.declared.config.Config.{Config}
 use Rattle.config_check.specs.Rules.{first_broken}
 use Rattle.reach_plain.specs.Reachability.{reachability}
 use Rattle.inspect_answers.specs.Expectations.{ExpectInput, Expectation, expect_at}
-use Rattle.inspect_answers.specs.Expecting.{counts_line, unmet_line}
+use Rattle.inspect_answers.specs.Expecting.{counts_in, unmet_line_in}
 use Rattle.inspect_answers.specs.declared.expectation.Expected.{Expected}
 use Rattle.inspect_answers.specs.declared.expectation.Expected.TheVariants.{Dropped, NoSourcePort, NoDestination, NoRoute, Denied, Delivered}
+use Rattle.inspect_json.specs.declared.form.Form.{Form}
 use Rattle.inspect_answers.specs.declared.top.Status.{Status}
 use Rattle.inspect_answers.specs.declared.top.Status.TheVariants as Ended
 
@@ -38,8 +39,8 @@ pub record Unmet : Type 0 where
   pub expected : Expected
   pub outcome : Outcome
 
-abbrev pub line_text : Unmet → List ℕ
-line_text l = unmet_line l.number l.expected l.outcome
+abbrev pub line_in : Form → Config → Unmet → List ℕ
+line_in form c l = unmet_line_in form c l.number l.expected l.outcome
 
 -- a line is of the packet of its number, counted from 1: with what is expected of that, and what comes otherwise
 pub record IsUnmet (c : Config) (packets : List Expectation) (line : Unmet) : Type 0 where
@@ -55,15 +56,15 @@ pub record IsUnmet (c : Config) (packets : List Expectation) (line : Unmet) : Ty
 abbrev pub IsExpectedIn : List ℕ → ExpectInput → Type 0
 IsExpectedIn octets r = (d : Data) × (json_of octets ≡ Some d) × (expect_at [] d ≡ Ok r)
 
--- the input has a valid configuration and expectations, and these lines were taken, in the order of the packets, and one
--- that counts both: of each packet whose outcome is otherwise; the run ends so where each is as expected, and so where one
+-- the input has a valid configuration and expectations, and these lines were taken in the form that is asked for, in the order
+-- of the packets, and one that counts both: of each packet whose outcome is otherwise; the run ends so where each is as expected, and so where one
 -- is not
-pub record TookExpected (status : Status) (octets : List ℕ) (old new : Option (List ℕ)) : Type 0 where
+pub record TookExpected (form : Form) (status : Status) (octets : List ℕ) (old new : Option (List ℕ)) : Type 0 where
   pub read : ExpectInput
   pub written : IsExpectedIn octets read
   pub valid : first_broken read.input.topology read.input.config ≡ None
   pub lines : List Unmet
-  pub taken : Appends old new (flat_map line_text lines ++ counts_line (length read.packets) (length lines))
+  pub taken : Appends old new (flat_map (line_in form read.input.config) lines ++ counts_in form (length read.packets) (length lines))
   pub exact : (line : Unmet) → Contains lines line ↔ IsUnmet read.input.config read.packets line
   pub in_order : AllPairs (λ l m. l.number < m.number) lines
   pub met : (status ≡ Ended.Done) ↔ All (ComesSo read.input.config) read.packets

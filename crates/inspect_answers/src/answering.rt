@@ -6,7 +6,8 @@ ghost use Rattle.ov_io.specs.Pieces.{HasWriteCause};
 ghost use Rattle.compile_answers.specs.Answers.{answer_good};
 ghost use Rattle.inspect_answers.specs.Answers.{IsAnswer, IsUnfit, WasGiven, answer, judged, missing, missing_of};
 ghost use Rattle.inspect_answers.specs.Answers.{valid_answer, ways_answer, ways_value};
-ghost use Rattle.inspect_changes.specs.Lines.{ways_text};
+ghost use Rattle.inspect_json.specs.WayLines.{ways_in};
+ghost use Rattle.inspect_json.specs.declared.form.Form.{Form as LineForm};
 ghost use Rattle.inspect_answers.specs.Runs.{Keeps, status_of};
 
 use crate::asked::Asked;
@@ -21,6 +22,7 @@ use config_check::{Refusal, Valid, network_named};
 use config_model::{ReadRefusal, read_compile};
 use config_types::Config;
 use inspect_changes::Pairs;
+use inspect_json::Form;
 use ov_io::{Sink, WriteRefusal};
 use ov_json::value_of;
 use ov_types::{Name, NoMemory};
@@ -52,8 +54,9 @@ fn missing_of(pairs: &Pairs, config: &Config) -> Option<Refusal>
 
 /// A valid configuration that has the networks that are asked for.
 fn having(pairs: &Pairs, valid: Valid) -> Result<Valid, Unfit>
-    ensures fit { IfOk result (λ v. valid_answer pairs.now valid.config ≡ judged (answer_good (ways_text pairs.now v.config))) }
-    ensures unfit { IfErr result (λ unfit. IsUnfit unfit (valid_answer pairs.now valid.config)) }
+    ensures fit { (form : LineForm)
+        → IfOk result (λ v. valid_answer form pairs.now valid.config ≡ judged (answer_good (ways_in form pairs.now v.config))) }
+    ensures unfit { (form : LineForm) → IfErr result (λ unfit. IsUnfit unfit (valid_answer form pairs.now valid.config)) }
 {
     match missing_of(pairs, valid.config()) {
         Some(refusal) => Err(Unfit::Refused(refusal)),
@@ -64,9 +67,9 @@ fn having(pairs: &Pairs, valid: Valid) -> Result<Valid, Unfit>
 /// What is taken from a value.
 #[tactic(auto, using(crate::proofs::Unfitting::unfit_anyway), unfolding(crate::specs::Answers::ways_value))]
 fn ways_taken(alloc: Global, pairs: &Pairs, value: &Value) -> Result<Valid, Unfit>
-    ensures fit { IfOk result (λ valid. ways_value pairs.now (view value.now)
-        ≡ judged (answer_good (ways_text pairs.now valid.config))) }
-    ensures unfit { IfErr result (λ unfit. IsUnfit unfit (ways_value pairs.now (view value.now))) }
+    ensures fit { (form : LineForm) → IfOk result (λ valid. ways_value form pairs.now (view value.now)
+        ≡ judged (answer_good (ways_in form pairs.now valid.config))) }
+    ensures unfit { (form : LineForm) → IfErr result (λ unfit. IsUnfit unfit (ways_value form pairs.now (view value.now))) }
 {
     match read_compile(alloc, value) {
         Ok(input) => match valid_of(alloc, input) {
@@ -81,9 +84,9 @@ fn ways_taken(alloc: Global, pairs: &Pairs, value: &Value) -> Result<Valid, Unfi
 /// What is taken from an input.
 #[tactic(auto, unfolding(crate::specs::Answers::ways_answer))]
 fn ways_asked(alloc: Global, pairs: &Pairs, octets: &[u8]) -> Result<Valid, Unfit>
-    ensures fit { IfOk result (λ valid. ways_answer pairs.now octets.now
-        ≡ judged (answer_good (ways_text pairs.now valid.config))) }
-    ensures unfit { IfErr result (λ unfit. IsUnfit unfit (ways_answer pairs.now octets.now)) }
+    ensures fit { (form : LineForm) → IfOk result (λ valid. ways_answer form pairs.now octets.now
+        ≡ judged (answer_good (ways_in form pairs.now valid.config))) }
+    ensures unfit { (form : LineForm) → IfErr result (λ unfit. IsUnfit unfit (ways_answer form pairs.now octets.now)) }
 {
     match value_of(alloc, octets) {
         Ok(Some(value)) => ways_taken(alloc, pairs, &value),
@@ -95,19 +98,20 @@ fn ways_asked(alloc: Global, pairs: &Pairs, octets: &[u8]) -> Result<Valid, Unfi
 /// Writes the ways that are asked for of an input.
 fn answer_ways<K: Sink>(
     alloc: Global,
+    form: Form,
     pairs: &Pairs,
     octets: &[u8],
     sink: &mut K,
 ) -> Result<Verdict, WriteRefusal>
-    ensures given { IfOk result (λ verdict. WasGiven (ways_answer pairs.now octets.now) verdict
+    ensures given { IfOk result (λ verdict. WasGiven (ways_answer form pairs.now octets.now) verdict
         (K.taken sink.old) (K.taken sink.new)) }
     ensures front { OnErr result (TookFront (K.taken sink.old) (K.taken sink.new)
-        (ways_answer pairs.now octets.now).text) }
+        (ways_answer form pairs.now octets.now).text) }
     ensures cause { HasWriteCause (K.faults sink.old) (K.faults sink.new) result }
 {
     match ways_asked(alloc, pairs, octets) {
         Ok(valid) => {
-            write_all_ways(alloc, pairs, &valid, sink)?;
+            write_all_ways(alloc, form, pairs, &valid, sink)?;
             Ok(Verdict::Good)
         }
         Err(unfit) => answer_unfit(alloc, unfit, sink),
@@ -131,9 +135,9 @@ pub(crate) fn answer<K: Sink>(
         → Keeps asked.now (status_of verdict) octets.now (K.taken sink.old) (K.taken sink.new)) }
 {
     match asked {
-        Asked::Ways(pairs) => answer_ways(alloc, pairs, octets, sink),
-        Asked::Expect => answer_expect(alloc, octets, sink),
-        Asked::Unused => answer_unused(alloc, octets, sink),
+        Asked::Ways(form, pairs) => answer_ways(alloc, *form, pairs, octets, sink),
+        Asked::Expect(form) => answer_expect(alloc, *form, octets, sink),
+        Asked::Unused(form) => answer_unused(alloc, *form, octets, sink),
         Asked::Why => answer_why(alloc, octets, sink),
         Asked::Hitless => answer_edits(alloc, octets, sink),
     }

@@ -1,0 +1,5 @@
+pub mod Fit
+pub mod NoFloats
+mod Named
+pub mod ReadBack
+pub mod SameSaid
