@@ -17,7 +17,8 @@ use Rattle.reach_plain.specs.Reachability.{reachability}
 use Rattle.inspect_reasons.specs.Causes.{causes}
 use Rattle.inspect_reasons.proofs.Explained.{explains}
 use Rattle.inspect_answers.specs.Answers.{Answer, IsAnswer, WasGiven, answer_unless, judged, of_json, why_answer, why_reading, why_value}
-use Rattle.inspect_answers.specs.Explained.{Explained, IsAskedIn, IsExplained, TookExplained, packet_text, packets_from, text_of, why_text}
+use Rattle.inspect_answers.specs.Explained.{Explained, IsAskedIn, IsExplained, TookExplained, packet_in, packets_from, told_in, why_in}
+use Rattle.inspect_json.specs.declared.form.Form.{Form}
 use Rattle.inspect_answers.specs.Runs.{status_of}
 use Rattle.inspect_answers.specs.declared.top.Status.TheVariants as Ended
 use Rattle.inspect_answers.specs.declared.verdict.Verdict.{Verdict}
@@ -32,9 +33,9 @@ abbrev explained_from : Config → ℕ → List Packet → List Explained
 explained_from c n [] = []
 explained_from c n (p ∷ ps) = explained c n p ∷ explained_from c (n + 1) ps
 
-text_of_each : (c : Config) (n : ℕ) (ps : List Packet) → packets_from c n ps ≡ flat_map text_of (explained_from c n ps)
-text_of_each c n [] = refl
-text_of_each c n (p ∷ ps) = ap (λ (t : List ℕ). packet_text c n p ++ t) (text_of_each c (n + 1) ps)
+text_of_each : (form : Form) (c : Config) (n : ℕ) (ps : List Packet) → packets_from form c n ps ≡ flat_map (told_in form c) (explained_from c n ps)
+text_of_each form c n [] = refl
+text_of_each form c n (p ∷ ps) = ap (λ (t : List ℕ). packet_in form c n p ++ t) (text_of_each form c (n + 1) ps)
 
 as_many : (c : Config) (n : ℕ) (ps : List Packet) → length (explained_from c n ps) ≡ length ps
 as_many c n [] = refl
@@ -58,43 +59,43 @@ explained_at t c kept n (q ∷ ps) (suc place) p x at told m e =
 -- the input
 
 -- a valid configuration and packets were read, and what is told of these is the answer
-record IsRead (octets : List ℕ) : Type 0 where
+record IsRead (form : Form) (octets : List ℕ) : Type 0 where
   pub read : ReachInput
   pub written : IsAskedIn octets read
   pub valid : first_broken read.input.topology read.input.config ≡ None
-  pub is : why_answer octets ≡ judged (answer_good (why_text read.input.config read.packets))
+  pub is : why_answer form octets ≡ judged (answer_good (why_in form read.input.config read.packets))
 
 by_answer : (broken : Option Refusal) (answer : Answer) → IsAnswer (answer_unless broken answer).verdict
     → (broken ≡ None) × (answer_unless broken answer ≡ answer)
 by_answer (Some r) answer h = absurd h
 by_answer None answer h = (refl, refl)
 
-by_reading : (octets : List ℕ) (d : Data) → json_of octets ≡ Some d → (r : Result ReachInput Fault) → reach_at [] d ≡ r
-    → why_answer octets ≡ why_reading r → IsAnswer (why_reading r).verdict → IsRead octets
-by_reading octets d e (Err f) read is h = absurd h
-by_reading octets d e (Ok r) read is h =
-    let parts = by_answer (first_broken r.input.topology r.input.config) (judged (answer_good (why_text r.input.config r.packets))) h in
+by_reading : (form : Form) (octets : List ℕ) (d : Data) → json_of octets ≡ Some d → (r : Result ReachInput Fault) → reach_at [] d ≡ r
+    → why_answer form octets ≡ why_reading form r → IsAnswer (why_reading form r).verdict → IsRead form octets
+by_reading form octets d e (Err f) read is h = absurd h
+by_reading form octets d e (Ok r) read is h =
+    let parts = by_answer (first_broken r.input.topology r.input.config) (judged (answer_good (why_in form r.input.config r.packets))) h in
     record { read = r; written = (d, e, read); valid = parts.0; is = is ∙ parts.1 }
 
-by_json : (octets : List ℕ) (o : Option Data) → json_of octets ≡ o → why_answer octets ≡ of_json why_value o
-    → IsAnswer (of_json why_value o).verdict → IsRead octets
+by_json : (form : Form) (octets : List ℕ) (o : Option Data) → json_of octets ≡ o → why_answer form octets ≡ of_json (why_value form) o
+    → IsAnswer (of_json (why_value form) o).verdict → IsRead form octets
 unfolding why_value
-by_json octets None e is h = absurd h
-by_json octets (Some d) e is h = by_reading octets d e (reach_at [] d) refl is h
+by_json form octets None e is h = absurd h
+by_json form octets (Some d) e is h = by_reading form octets d e (reach_at [] d) refl is h
 
-is_read : (octets : List ℕ) → IsAnswer (why_answer octets).verdict → IsRead octets
+is_read : (form : Form) (octets : List ℕ) → IsAnswer (why_answer form octets).verdict → IsRead form octets
 unfolding why_answer
-is_read octets h = by_json octets (json_of octets) refl refl h
+is_read form octets h = by_json form octets (json_of octets) refl refl h
 
-pub took_explained : (octets : List ℕ) (verdict : Verdict) (old new : Option (List ℕ)) → WasGiven (why_answer octets) verdict old new
-    → IsAnswer verdict → (status_of verdict ≡ Ended.Done) × TookExplained octets old new
-unfolding why_text
-took_explained octets verdict old new given answers =
-    let good = is_read octets (subst IsAnswer given.is answers) in
+pub took_explained : (form : Form) (octets : List ℕ) (verdict : Verdict) (old new : Option (List ℕ)) → WasGiven (why_answer form octets) verdict old new
+    → IsAnswer verdict → (status_of verdict ≡ Ended.Done) × TookExplained form octets old new
+unfolding why_in
+took_explained form octets verdict old new given answers =
+    let good = is_read form octets (subst IsAnswer given.is answers) in
     let c = good.read.input.config in
     let ps = good.read.packets in
-    let text : (why_answer octets).text ≡ flat_map text_of (explained_from c 1 ps) =
-    ap (λ (a : Answer). a.text) good.is ∙ text_of_each c 1 ps in
+    let text : (why_answer form octets).text ≡ flat_map (told_in form c) (explained_from c 1 ps) =
+    ap (λ (a : Answer). a.text) good.is ∙ text_of_each form c 1 ps in
     let verdict_is : verdict ≡ Good = given.is ∙ ap (λ (a : Answer). a.verdict) good.is in (
       ap status_of verdict_is,
       record {

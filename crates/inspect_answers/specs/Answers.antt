@@ -20,7 +20,7 @@ use Rattle.compile_answers.specs.declared.unfit.Unfit.TheVariants as unfit
 use Rattle.hitless_answers.specs.Answers.{hitless_answer}
 use Rattle.inspect_answers.specs.Expectations.{ExpectInput, Expectation, expect_at}
 use Rattle.inspect_answers.specs.Expecting.{all_met, expect_in}
-use Rattle.inspect_answers.specs.Explained.{why_text}
+use Rattle.inspect_answers.specs.Explained.{why_in}
 use Rattle.inspect_answers.specs.IdleLines.{idle_in}
 use Rattle.inspect_json.specs.WayLines.{ways_in}
 use Rattle.inspect_json.specs.declared.form.Form.{Form}
@@ -140,23 +140,23 @@ unfoldable pub unused_answer : Form → List ℕ → Answer
 unused_answer form octets = of_json (unused_value form) (json_of octets)
 
 -- what becomes of packets, and what that comes of, of what was read for `why`, or not
-abbrev pub why_reading : Result ReachInput Fault → Answer
-why_reading (Err f) = judged (answer_bad f)
-why_reading (Ok r) =
-    answer_unless (first_broken r.input.topology r.input.config) (judged (answer_good (why_text r.input.config r.packets)))
+abbrev pub why_reading : Form → Result ReachInput Fault → Answer
+why_reading form (Err f) = judged (answer_bad f)
+why_reading form (Ok r) =
+    answer_unless (first_broken r.input.topology r.input.config) (judged (answer_good (why_in form r.input.config r.packets)))
 
 -- of a value
-unfoldable pub why_value : Data → Answer
-why_value d = why_reading (reach_at [] d)
+unfoldable pub why_value : Form → Data → Answer
+why_value form d = why_reading form (reach_at [] d)
 
 -- what `inspect why` answers to a document
-unfoldable pub why_answer : List ℕ → Answer
-why_answer octets = of_json why_value (json_of octets)
+unfoldable pub why_answer : Form → List ℕ → Answer
+why_answer form octets = of_json (why_value form) (json_of octets)
 
 -- what is answered to a document
 abbrev pub answer : Asked → List ℕ → Answer
 answer (Asks.Ways form pairs) octets = ways_answer form pairs octets
 answer (Asks.Expect form) octets = expect_answer form octets
 answer (Asks.Unused form) octets = unused_answer form octets
-answer Asks.Why octets = why_answer octets
+answer (Asks.Why form) octets = why_answer form octets
 answer Asks.Hitless octets = judged (hitless_answer octets)

@@ -90,5 +90,5 @@ abbrev pub Keeps : Asked → Status → List ℕ → Option (List ℕ) → Optio
 Keeps (Asks.Ways form pairs) status octets old new = (status ≡ Ended.Done) × TookWays form pairs octets old new
 Keeps (Asks.Expect form) status octets old new = TookExpected form status octets old new
 Keeps (Asks.Unused form) status octets old new = (status ≡ Ended.Done) × TookUnused form octets old new
-Keeps Asks.Why status octets old new = (status ≡ Ended.Done) × TookExplained octets old new
+Keeps (Asks.Why form) status octets old new = (status ≡ Ended.Done) × TookExplained form octets old new
 Keeps Asks.Hitless status octets old new = (status ≡ Ended.Done) × TookJudgements octets old new

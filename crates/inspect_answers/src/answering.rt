@@ -138,7 +138,7 @@ pub(crate) fn answer<K: Sink>(
         Asked::Ways(form, pairs) => answer_ways(alloc, *form, pairs, octets, sink),
         Asked::Expect(form) => answer_expect(alloc, *form, octets, sink),
         Asked::Unused(form) => answer_unused(alloc, *form, octets, sink),
-        Asked::Why => answer_why(alloc, octets, sink),
+        Asked::Why(form) => answer_why(alloc, *form, octets, sink),
         Asked::Hitless => answer_edits(alloc, octets, sink),
     }
 }

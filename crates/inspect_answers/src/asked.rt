@@ -19,7 +19,7 @@ pub enum Asked {
     /// Which rules decide nothing, and which policies and chains are not in use.
     Unused(Form),
     /// What the outcomes of packets come of.
-    Why,
+    Why(Form),
     /// Which packets each of some edits interrupts.
     Hitless,
 }
@@ -86,6 +86,7 @@ fn asked_alone(form: Form, command: &str) -> Option<Asked>
         "ways" => Some(Asked::Ways(form, Pairs::All)),
         "expect" => Some(Asked::Expect(form)),
         "unused" => Some(Asked::Unused(form)),
+        "why" => Some(Asked::Why(form)),
         _ => asked_as_text(form, command),
     }
 }
@@ -95,7 +96,6 @@ fn asked_as_text(form: Form, command: &str) -> Option<Asked>
     ensures { result ≡ asked_as_text form command.now }
 {
     match (form, command) {
-        (Form::Text, "why") => Some(Asked::Why),
         (Form::Text, "hitless") => Some(Asked::Hitless),
         _ => None,
     }

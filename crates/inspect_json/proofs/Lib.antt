@@ -3,3 +3,4 @@ pub mod NoFloats
 mod Named
 pub mod ReadBack
 pub mod SameSaid
+pub mod ReasonsBack

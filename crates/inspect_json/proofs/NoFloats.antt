@@ -22,6 +22,10 @@ use Rattle.inspect_rules.specs.declared.idle.Idle.TheVariants as Idles
 use Rattle.inspect_json.specs.IdleValues.{idle_chain_value, idle_policy_value, idle_rule_value, idle_value}
 use Rattle.inspect_json.specs.ChangeValues.{came_value, difference_value, fate_rule, fate_services, fate_value, network_value, object_value, port_name, port_value, service_object_value, subnet_value, went_value}
 use Rattle.inspect_json.specs.OutcomeValues.{delivered_value, denier_value, dropped_value, outcome_value, port_number_value, to_drop_value, to_drop_why_value, why_rule}
+use Rattle.inspect_reasons.specs.declared.cause.Cause.{Cause}
+use Rattle.inspect_reasons.specs.declared.cause.Cause.TheVariants as Of
+use Rattle.inspect_reasons.specs.declared.cause.Condition.{Condition}
+use Rattle.inspect_json.specs.ReasonValues.{attached_value, cause_value, decided_value, explained_value, mirrored_value, near_value, placed_value, skipped_value}
 use Rattle.inspect_json.specs.Values.{name_value, passage_services, policy_name, rule_value, service_name, service_value, way_value}
 
 lists : {A : Type 0} (value : A → Data) → ((x : A) → has_float (value x) ≡ false) → (xs : List A) → items_have_float (items_of (map value xs)) ≡ false
@@ -107,3 +111,24 @@ to_drop = refl
 pub to_drop_why : (why : List ℕ) → has_float (to_drop_why_value why) ≡ false
 unfolding to_drop_why_value
 to_drop_why why = refl
+
+placed : (r : RuleNo) (policy : Option (List ℕ)) → has_float (placed_value r policy) ≡ false
+unfolding placed_value
+placed r policy = rw (names policy) refl
+
+mirrored_none : (m : Option Condition) → has_float (mirrored_value m) ≡ false
+mirrored_none None = refl
+mirrored_none (Some condition) = refl
+
+cause : (x : Cause) → has_float (cause_value x) ≡ false
+unfolding near_value skipped_value decided_value attached_value
+cause (Of.From network) = refl
+cause (Of.To network) = refl
+cause (Of.Skipped r policy forwards mirrored) = rw (mirrored_none mirrored, placed r policy) refl
+cause (Of.Decided r policy mirrored) = rw (placed r policy) refl
+cause (Of.Attached network policy) = refl
+cause (Of.Unrelated network) = refl
+
+pub explained : (c : Config) (n : ℕ) (o : Outcome) (xs : List Cause) → has_float (explained_value c n o xs) ≡ false
+unfolding explained_value
+explained c n o xs = rw (lists cause_value cause xs, outcome c o) refl

@@ -47,7 +47,7 @@ use Rattle.inspect_json.proofs.Fit.{AreFit, IsFit, is_read_back}
 pub word : (s : List ℕ) → are_ascii s ≡ true → IsUtf8 s
 word s h = IsUtf8-are_ascii s h
 
-small : (n : ℕ) → nat_le n 65535 ≡ true → n < 2 ^ 64
+pub small : (n : ℕ) → nat_le n 65535 ≡ true → n < 2 ^ 64
 small n h = omega (arith, leb-true n 65535 h)
 
 range : (k : ℕ) (r : Range16) → has_range_size r ≡ true → IsFit (suc k) (range_value r)
@@ -55,7 +55,7 @@ range k r h =
     let p = and_parts (nat_le r.lo 65535) (nat_le r.hi 65535) h in
     (small r.lo p.0, (small r.hi p.1, tt))
 
-lists : {A : Type 0} (k : ℕ) (value : A → Data) (has_size : A → Bool) → ((x : A) → has_size x ≡ true → IsFit k (value x)) → (xs : List A)
+pub lists : {A : Type 0} (k : ℕ) (value : A → Data) (has_size : A → Bool) → ((x : A) → has_size x ≡ true → IsFit k (value x)) → (xs : List A)
     → list_all has_size xs ≡ true → AreFit k (items_of (map value xs))
 lists k value has_size each [] h = tt
 lists k value has_size each (x ∷ xs) h =

@@ -122,12 +122,12 @@ way_says c d from to from' to' w w' h =
 -- what differs
 
 -- how many members there are
-abbrev size : Members → ℕ
+abbrev pub size : Members → ℕ
 size no_members = 0
 size (member name d ms) = suc (size ms)
 
 -- the first letter of a word
-abbrev letter : List ℕ → ℕ
+abbrev pub letter : List ℕ → ℕ
 letter [] = 0
 letter (x ∷ xs) = x
 

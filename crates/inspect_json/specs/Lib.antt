@@ -5,4 +5,5 @@ pub mod ChangeValues
 pub mod ChangeLines
 pub mod IdleValues
 pub mod OutcomeValues
+pub mod ReasonValues
 pub mod Sizes

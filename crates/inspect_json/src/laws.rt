@@ -1,7 +1,8 @@
 //! What lines in a form promise, as laws: each is the contract of a function that does nothing.
-ghost use Rattle.std.specs.Prelude.{◌≡◌, ℕ, List, IsTrue, None, Some};
-ghost use Rattle.std.specs.List.{Contains};
+ghost use Rattle.std.specs.Prelude.{◌≡◌, ◌<◌, ◌^◌, ℕ, List, IsTrue, None, Some};
+ghost use Rattle.std.specs.List.{Contains, list_all};
 ghost use Rattle.ov_types.specs.Name.{is_name};
+ghost use Rattle.ov_types.specs.declared.packet.Outcome.{Outcome};
 ghost use Rattle.config_types.specs.Form.{has_config_form};
 ghost use Rattle.config_types.specs.declared.config.Config.{Config};
 ghost use Rattle.config_types.specs.declared.config.Policy.{Policy};
@@ -16,11 +17,14 @@ ghost use Rattle.inspect_changes.specs.declared.objects.Object.{Object};
 ghost use Rattle.inspect_changes.specs.declared.pairs.Pairs.{Pairs};
 ghost use Rattle.inspect_changes.specs.declared.way.Way.{Way};
 ghost use Rattle.inspect_rules.specs.declared.idle.Idle.{Idle};
+ghost use Rattle.inspect_reasons.specs.declared.cause.Cause.{Cause};
 ghost use Rattle.inspect_json.specs.ChangeLines.{diff_in};
 ghost use Rattle.inspect_json.specs.ChangeValues.{came_value, difference_value, port_name, went_value};
 ghost use Rattle.inspect_json.specs.Form.{IsReadBack};
 ghost use Rattle.inspect_json.specs.IdleValues.{idle_value};
-ghost use Rattle.inspect_json.specs.Sizes.{has_difference_size, has_idle_size, has_object_size, has_way_size};
+ghost use Rattle.inspect_json.specs.ReasonValues.{explained_value};
+ghost use Rattle.inspect_json.specs.Sizes.{has_cause_size, has_difference_size, has_idle_size, has_object_size};
+ghost use Rattle.inspect_json.specs.Sizes.{has_outcome_size, has_way_size};
 ghost use Rattle.inspect_json.specs.Values.{policy_name, service_name, way_value};
 ghost use Rattle.inspect_json.specs.WayLines.{ways_in};
 ghost use Rattle.inspect_json.specs.declared.form.Form.TheVariants.{Text};
@@ -55,6 +59,14 @@ pub fn differences_read_as_their_values()
 pub fn what_is_idle_reads_as_its_value()
     ensures reads { (c : Config) (x : Idle) → IsTrue (has_config_form c) → IsTrue (has_idle_size x) → IsReadBack (idle_value c x) }
     ensures says { (c d : Config) (x y : Idle) → idle_value c x ≡ idle_value d y → x ≡ y }
+{}
+
+/// The JSON of why a packet has its outcome reads as its value, and two of one value say one thing of a packet.
+pub fn reasons_read_as_their_values()
+    ensures reads { (c : Config) (n : ℕ) (o : Outcome) (xs : List Cause) → IsTrue (has_config_form c) → n < 2 ^ 64
+        → IsTrue (has_outcome_size o) → IsTrue (list_all has_cause_size xs) → IsReadBack (explained_value c n o xs) }
+    ensures says { (c d : Config) (n m : ℕ) (o p : Outcome) (xs ys : List Cause) → explained_value c n o xs ≡ explained_value d m p ys
+        → (n ≡ m) × (o ≡ p) × (xs ≡ ys) }
 {}
 
 /// In a valid configuration the name beside a number is that of the policy, the service or the port that has this number.

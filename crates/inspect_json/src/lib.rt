@@ -10,6 +10,8 @@ mod idle_values;
 pub mod laws;
 mod line;
 mod outcome_values;
+mod reason_lines;
+mod reason_values;
 mod values;
 mod way_lines;
 
@@ -18,4 +20,5 @@ pub use form::Form;
 pub use idle_lines::IdleJson;
 pub use line::append_line;
 pub use outcome_values::{delivered_value, outcome_value, to_drop_value, to_drop_why_value};
+pub use reason_lines::ExplainedJson;
 pub use way_lines::WaysIn;
