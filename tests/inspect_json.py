@@ -5,8 +5,8 @@ usage: tests/inspect_json.py PROGRAM [COUNT [SEED]]
 
 PROGRAM is the built `inspect`. COUNT random documents are made (50 where none is given) for each command that has lines of JSON. Each is
 answered twice, without `--json` and with it. Each line of JSON, read by Python's json, is to be an object whose members are in order and
-spell out the line of text, and each name beside a number is to be the document's; the exit status is to be the same, and so is the
-line of a document that is not fit. Needs Python 3.8. Ends with status 1 where something differs.
+spell out the line of text, or for `why` the lines of a packet, and each name beside a number is to be the document's; the exit status is
+to be the same, and so is the line of a document that is not fit. Needs Python 3.8. Ends with status 1 where something differs.
 """
 import copy
 import json
@@ -16,6 +16,7 @@ import sys
 import tempfile
 
 import inspect_diff
+import inspect_expect
 import inspect_ways
 
 
@@ -30,7 +31,7 @@ class Names:
         self.configuration, self.wrong = configuration, wrong
 
     def check(self, items, value, number, name, by="id"):
-        if named(self.configuration[items], value[number], by) != [value[name]]:
+        if (named(self.configuration[items], value[number], by) or [None]) != [value[name]]:
             self.wrong.append(f"{value} is not named as in the document")
 
     def rule(self, value):
@@ -59,6 +60,38 @@ class Names:
         if value["fate"] != "through":
             return f"{value['fate']} {rule}" if services == "-" else f"{value['fate']} with services"
         return f"through {rule} services {services}"
+
+    def outcome(self, value):
+        """An outcome, or what is expected of a packet."""
+        if value["fate"] == "delivered":
+            self.check("ports", value["port"], "id", "name")
+            return f"delivered port {value['port']['id']} services {self.services(value['services'])}"
+        words = " ".join([value["fate"]] + [value[it] for it in ("why",) if it in value])
+        if value.get("why") != "denied" or "rule" not in value:
+            return words + ("" if not value.get("rule") else " with a rule")
+        return f"{words} {self.rule(value['rule']) if value['rule'] else '-'}"
+
+    def unmet(self, value):
+        if "otherwise" in value:
+            return f"packets {value['packets']} otherwise {value['otherwise']}"
+        return f"{value['packet']} expected {self.outcome(value['expected'])} but {self.outcome(value['outcome'])}"
+
+    def cause(self, value):
+        kind = value["kind"]
+        if kind == "attached":
+            return f"attached network {value['network']} policy {value['policy']}"
+        if kind not in ("skipped", "decided"):
+            return f"{kind} network {value['network']}"
+        rule = value["rule"]
+        self.rule(rule)
+        place = f"{kind} policy {rule['policy']} position {rule['position']}"
+        if kind == "decided":
+            return f"{place} {value['reading']}"
+        return f"{place} forwards {value['forwards']} mirrored {value['mirrored'] or '-'}"
+
+    def explained(self, value):
+        told = [self.outcome(value["outcome"])] + [self.cause(it) for it in value["causes"]]
+        return "\n".join(f"{value['packet']} {it}" for it in told)
 
     def idle(self, value):
         if value["kind"] == "rule":
@@ -128,6 +161,18 @@ def tried(program, chance, wrong):
     return True
 
 
+def packets_tried(program, chance, wrong):
+    """The same of a document with packets, of which something is expected or nothing."""
+    doc = inspect_expect.peopled(chance)
+    names = Names(doc["configuration"], wrong)
+    if not compared(program, "why", ["-"], json.dumps(doc), names.explained, wrong):
+        return False
+    for packet in doc["packets"]:
+        packet["expect"] = inspect_expect.drawn(chance, inspect_expect.outcome(doc["configuration"], packet))[0]
+    compared(program, "expect", ["-"], json.dumps(doc), names.unmet, wrong)
+    return True
+
+
 def pair_tried(program, chance, folder, wrong):
     before = inspect_diff.document(chance)
     after = copy.deepcopy(before)
@@ -144,15 +189,16 @@ def main():
     if not 2 <= len(sys.argv) <= 4:
         sys.exit(__doc__)
     program, count, seed = sys.argv[1], int((sys.argv[2:] or ["50"])[0]), int((sys.argv[3:] or ["1"])[0])
-    chance, done, pairs, refused, wrong = random.Random(seed), 0, 0, 0, []
+    chance, fit, refused, wrong = random.Random(seed), [0, 0, 0], 0, []
     with tempfile.TemporaryDirectory() as folder:
-        while done < count or pairs < count:
+        while min(fit) < count:
             was = len(wrong)
-            one, two = tried(program, chance, wrong), pair_tried(program, chance, folder, wrong)
-            done, pairs, refused = done + one, pairs + two, refused + (not one) + (not two)
+            found = [tried(program, chance, wrong), packets_tried(program, chance, wrong), pair_tried(program, chance, folder, wrong)]
+            fit, refused = [a + b for a, b in zip(fit, found)], refused + found.count(False)
             for line in wrong[was : was + 5]:
                 print(line)
-    print(f"{done} documents, {pairs} pairs, {refused} more refused, {len(wrong)} differences")
+    documents, packets, pairs = fit
+    print(f"{documents} documents, {packets} with packets, {pairs} pairs, {refused} more refused, {len(wrong)} differences")
     sys.exit(1 if wrong else 0)
 
 
