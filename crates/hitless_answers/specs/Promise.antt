@@ -10,7 +10,8 @@ use Rattle.hitless_laws.specs.Keeping.{IsHitless, IsValidAsWritten}
 use Rattle.hitless_cells.specs.Interrupted.{EachHasLine, IsInterrupted}
 use Rattle.hitless_cells.specs.declared.lines.Interruption.{Interruption}
 use Rattle.hitless_answers.specs.Judging.{Standing, fault_in, standing_first, standing_next}
-use Rattle.hitless_answers.specs.Lines.{lines_from}
+use Rattle.inspect_json.specs.declared.form.Form.{Form}
+use Rattle.hitless_answers.specs.FormLines.{lines_in}
 use Rattle.hitless_answers.specs.Reading.{hitless_at}
 use Rattle.hitless_answers.specs.declared.input.HitlessInput.{HitlessInput}
 use Rattle.hitless_answers.specs.declared.judging.Judgement.{Judgement}
@@ -42,11 +43,11 @@ abbrev pub opening_of : HitlessInput → Checked
 opening_of r = record { topology = r.input.topology; config = r.input.config }
 
 -- octets are a document of this input, its configuration is valid, and what was taken is the lines of what is said of its edits,
--- which count from 1
-pub record TookJudgements (octets : List ℕ) (old new : Option (List ℕ)) : Type 0 where
+-- which count from 1, in the form that is asked for
+pub record TookJudgements (form : Form) (octets : List ℕ) (old new : Option (List ℕ)) : Type 0 where
   pub input : HitlessInput
   pub read : AreDocument octets (λ d. hitless_at [] d ≡ Ok input)
   pub valid : IsValidAsWritten (opening_of input)
   pub judgements : List Judgement
-  pub taken : Appends old new (lines_from 1 judgements)
+  pub taken : Appends old new (lines_in form 1 input.edits (standing_first (opening_of input)) judgements)
   pub said : AreSaidOf (standing_first (opening_of input)) input.edits judgements

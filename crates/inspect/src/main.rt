@@ -37,7 +37,7 @@ const USAGE: &str = "usage: inspect COMMAND, where a FILE of - is standard input
   hitless FILE         which of a document's edits interrupt packets that are delivered before and after, and which packets
   --help               this text; so does -h
   --version            the version
-with --json behind its word, as in `ways --json FILE`, each but hitless writes lines of JSON, with names beside numbers
+with --json behind its word, as in `ways --json FILE`, a command writes lines of JSON, with names beside numbers
 ";
 
 const STATUSES: &str =

@@ -159,4 +159,4 @@ answer (Asks.Ways form pairs) octets = ways_answer form pairs octets
 answer (Asks.Expect form) octets = expect_answer form octets
 answer (Asks.Unused form) octets = unused_answer form octets
 answer (Asks.Why form) octets = why_answer form octets
-answer Asks.Hitless octets = judged (hitless_answer octets)
+answer (Asks.Hitless form) octets = judged (hitless_answer form octets)

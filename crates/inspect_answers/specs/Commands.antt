@@ -26,18 +26,14 @@ abbrev pub named_by : List (String Global) → List (String Global)
 named_by [] = []
 named_by (word ∷ words) = if is_json (string_bytes word) then words else word ∷ words
 
--- what a command asks for that has lines of text alone
-abbrev pub asked_as_text : Form → List ℕ → Option Asked
-asked_as_text Json word = None
-asked_as_text Text word = if pointwise nat_eq word (codes "hitless") then Some Asks.Hitless else None
-
 -- what a command asks for that is given a file alone
 abbrev pub asked_alone : Form → List ℕ → Option Asked
 asked_alone form word =
     if is_ways word then Some (Asks.Ways form All)
     else (if pointwise nat_eq word (codes "expect") then Some (Asks.Expect form)
     else (if pointwise nat_eq word (codes "unused") then Some (Asks.Unused form)
-    else (if pointwise nat_eq word (codes "why") then Some (Asks.Why form) else asked_as_text form word)))
+    else (if pointwise nat_eq word (codes "why") then Some (Asks.Why form)
+    else (if pointwise nat_eq word (codes "hitless") then Some (Asks.Hitless form) else None))))
 
 -- the ways between two networks of these names, which differ
 abbrev pub asked_between : Form → Option (List ℕ) → Option (List ℕ) → Option Asked

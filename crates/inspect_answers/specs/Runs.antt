@@ -91,4 +91,4 @@ Keeps (Asks.Ways form pairs) status octets old new = (status ≡ Ended.Done) × 
 Keeps (Asks.Expect form) status octets old new = TookExpected form status octets old new
 Keeps (Asks.Unused form) status octets old new = (status ≡ Ended.Done) × TookUnused form octets old new
 Keeps (Asks.Why form) status octets old new = (status ≡ Ended.Done) × TookExplained form octets old new
-Keeps Asks.Hitless status octets old new = (status ≡ Ended.Done) × TookJudgements octets old new
+Keeps (Asks.Hitless form) status octets old new = (status ≡ Ended.Done) × TookJudgements form octets old new

@@ -139,6 +139,6 @@ pub(crate) fn answer<K: Sink>(
         Asked::Expect(form) => answer_expect(alloc, *form, octets, sink),
         Asked::Unused(form) => answer_unused(alloc, *form, octets, sink),
         Asked::Why(form) => answer_why(alloc, *form, octets, sink),
-        Asked::Hitless => answer_edits(alloc, octets, sink),
+        Asked::Hitless(form) => answer_edits(alloc, *form, octets, sink),
     }
 }

@@ -1,7 +1,7 @@
 //! What is asked for by the words of the command line.
 ghost use Rattle.std.specs.Prelude.{◌≡◌};
 ghost use Rattle.ov_types.specs.Name.{name_of};
-ghost use Rattle.inspect_answers.specs.Commands.{are_two_files, asked_alone, asked_as_text, asked_between, asked_by};
+ghost use Rattle.inspect_answers.specs.Commands.{are_two_files, asked_alone, asked_between, asked_by};
 ghost use Rattle.inspect_answers.specs.Commands.{asked_of, form_behind, form_of, is_diff, is_input, is_json, is_ways};
 ghost use Rattle.inspect_answers.specs.Commands.{named_by};
 
@@ -21,7 +21,7 @@ pub enum Asked {
     /// What the outcomes of packets come of.
     Why(Form),
     /// Which packets each of some edits interrupts.
-    Hitless,
+    Hitless(Form),
 }
 
 /// What the words after the program's name ask of a document: a command, `--json` where lines of JSON are asked for, the
@@ -87,16 +87,7 @@ fn asked_alone(form: Form, command: &str) -> Option<Asked>
         "expect" => Some(Asked::Expect(form)),
         "unused" => Some(Asked::Unused(form)),
         "why" => Some(Asked::Why(form)),
-        _ => asked_as_text(form, command),
-    }
-}
-
-/// What a command asks for that has lines of text alone.
-fn asked_as_text(form: Form, command: &str) -> Option<Asked>
-    ensures { result ≡ asked_as_text form command.now }
-{
-    match (form, command) {
-        (Form::Text, "hitless") => Some(Asked::Hitless),
+        "hitless" => Some(Asked::Hitless(form)),
         _ => None,
     }
 }

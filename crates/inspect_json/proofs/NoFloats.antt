@@ -83,9 +83,13 @@ idle c (Idles.Rule r before) = rw (lists (rule_value c) (rule c) before, rule c 
 idle c (Idles.Policy name networks) = refl
 idle c (Idles.Chain name) = refl
 
+pub port_number : (c : Config) (port : PortNo) → has_float (port_number_value c port) ≡ false
+unfolding port_number_value
+port_number c port = rw (names (port_name c port.0)) refl
+
 pub delivered : (c : Config) (port : PortNo) (services : List ServiceNo) → has_float (delivered_value c port services) ≡ false
-unfolding delivered_value port_number_value
-delivered c port services = rw (names (port_name c port.0), lists (service_value c) (service c) services) refl
+unfolding delivered_value
+delivered c port services = rw (port_number c port, lists (service_value c) (service c) services) refl
 
 deniers : (c : Config) (o : Option RuleNo) → has_float (denier_value c o) ≡ false
 deniers c None = refl

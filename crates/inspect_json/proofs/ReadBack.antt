@@ -411,7 +411,7 @@ idle_reads c x form h = is_read_back 3 (idle_value c x) (idle c x form h) (omega
 
 -- what becomes of a packet
 
-port_number : (k : ℕ) (c : Config) (port : PortNo) → has_config_form c ≡ true → nat_le port.0 0xffff_ffff ≡ true → IsFit (suc k) (port_number_value c port)
+pub port_number : (k : ℕ) (c : Config) (port : PortNo) → has_config_form c ≡ true → nat_le port.0 0xffff_ffff ≡ true → IsFit (suc k) (port_number_value c port)
 unfolding port_number_value
 port_number k c port form h =
     ((word (codes "id") refl, omega (arith, leb-true port.0 0xffff_ffff h),

@@ -19,6 +19,8 @@ pub use change_lines::{CameIn, DifferencesIn, WentIn};
 pub use form::Form;
 pub use idle_lines::IdleJson;
 pub use line::append_line;
-pub use outcome_values::{delivered_value, outcome_value, to_drop_value, to_drop_why_value};
+pub use outcome_values::{
+    delivered_value, outcome_value, port_number_value, to_drop_value, to_drop_why_value,
+};
 pub use reason_lines::ExplainedJson;
 pub use way_lines::WaysIn;

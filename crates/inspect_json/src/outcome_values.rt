@@ -11,8 +11,9 @@ use ov_types::{Outcome, PortNo, RuleNo, ServiceNo, Why};
 use serde_json::{Value, json};
 use std::alloc::{AllocError, Global};
 
+/// The number of a port, with its name.
 #[tactic(auto, unfolding(crate::specs::OutcomeValues::port_number_value))]
-fn port_number_value(alloc: Global, config: &Config, port: PortNo) -> Result<Value, AllocError>
+pub fn port_number_value(alloc: Global, config: &Config, port: PortNo) -> Result<Value, AllocError>
     ensures { IfOk result (λ v. view v ≡ port_number_value config.now port) }
 {
     let name = name_value(alloc, port_name(config, port.0))?;
