@@ -17,6 +17,7 @@ import tempfile
 
 import inspect_diff
 import inspect_expect
+import inspect_hitless
 import inspect_ways
 
 
@@ -102,6 +103,34 @@ class Names:
         return f"chain {value['name']} unused"
 
 
+class Edits:
+    """Spells what is said of edits, and names ports as the configuration does that the last edit made."""
+
+    def __init__(self, document, edits, wrong):
+        self.document, self.edits, self.wrong = document, edits, wrong
+
+    def way(self, value):
+        return f"use {value['use']}" if value["way"] == "use" else value["way"]
+
+    def packet(self, value):
+        names = Names(self.document["configuration"], self.wrong)
+        for port in (value["from"], value["to"], value["other_port"]):
+            if port:
+                names.check("ports", port, "id", "name")
+        differs = value["difference"] + (f" {value['other_port']['id']}" if value["other_port"] else "")
+        ways = f"was {self.way(value['was'])} is {self.way(value['becomes'])}: {differs}"
+        packet = f"tuple {value['protocol']} {value['sport']} {value['dport']}"
+        return f"from {value['from']['id']} to {value['to']['id']} {packet} {ways}"
+
+    def said(self, value):
+        if "refused" in value:
+            return f"{value['edit']} refused {value['refused']}"
+        if "interrupts" not in value:
+            return f"{value['edit']} {self.packet(value)}"
+        self.document = inspect_hitless.made(self.document, self.edits[value["edit"] - 1])
+        return f"{value['edit']} interrupts {value['interrupts']}" if value["interrupts"] else f"{value['edit']} hitless"
+
+
 def region(value):
     low, high = value["protocols"]
     protocols = "any" if (low, high) == (0, 255) else str(low) if low == high else f"{low}-{high}"
@@ -173,6 +202,13 @@ def packets_tried(program, chance, wrong):
     return True
 
 
+def edits_tried(program, chance, wrong):
+    """The same of a document with edits."""
+    doc = inspect_hitless.document(chance)
+    edits = [inspect_hitless.edit_of(chance, doc) for _ in range(chance.randint(1, 6))]
+    return compared(program, "hitless", ["-"], json.dumps({**doc, "edits": edits}), Edits(doc, edits, wrong).said, wrong)
+
+
 def pair_tried(program, chance, folder, wrong):
     before = inspect_diff.document(chance)
     after = copy.deepcopy(before)
@@ -189,16 +225,17 @@ def main():
     if not 2 <= len(sys.argv) <= 4:
         sys.exit(__doc__)
     program, count, seed = sys.argv[1], int((sys.argv[2:] or ["50"])[0]), int((sys.argv[3:] or ["1"])[0])
-    chance, fit, refused, wrong = random.Random(seed), [0, 0, 0], 0, []
+    chance, fit, refused, wrong = random.Random(seed), [0, 0, 0, 0], 0, []
     with tempfile.TemporaryDirectory() as folder:
         while min(fit) < count:
             was = len(wrong)
-            found = [tried(program, chance, wrong), packets_tried(program, chance, wrong), pair_tried(program, chance, folder, wrong)]
+            found = [it(program, chance, wrong) for it in (tried, packets_tried, edits_tried)]
+            found.append(pair_tried(program, chance, folder, wrong))
             fit, refused = [a + b for a, b in zip(fit, found)], refused + found.count(False)
             for line in wrong[was : was + 5]:
                 print(line)
-    documents, packets, pairs = fit
-    print(f"{documents} documents, {packets} with packets, {pairs} pairs, {refused} more refused, {len(wrong)} differences")
+    documents, packets, edits, pairs = fit
+    print(f"{documents} documents, {packets} with packets, {edits} with edits, {pairs} pairs, {refused} more refused, {len(wrong)} differences")
     sys.exit(1 if wrong else 0)
 
 

@@ -120,11 +120,7 @@ pub(crate) fn refused_value(
 
 /// How many pairs of ports the edit of a number interrupts.
 #[tactic(auto, unfolding(crate::specs::EditValues::count_value))]
-pub(crate) fn count_value(
-    alloc: Global,
-    number: usize,
-    count: usize,
-) -> Result<Value, AllocError>
+pub(crate) fn count_value(alloc: Global, number: usize, count: usize) -> Result<Value, AllocError>
     ensures { IfOk result (λ v. view v ≡ count_value number count) }
 {
     json!(in alloc; {"edit": number, "interrupts": count})

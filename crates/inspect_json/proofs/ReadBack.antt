@@ -413,18 +413,31 @@ idle_reads c x form h = is_read_back 3 (idle_value c x) (idle c x form h) (omega
 
 pub port_number : (k : ℕ) (c : Config) (port : PortNo) → has_config_form c ≡ true → nat_le port.0 0xffff_ffff ≡ true → IsFit (suc k) (port_number_value c port)
 unfolding port_number_value
-port_number k c port form h =
-    ((word (codes "id") refl, omega (arith, leb-true port.0 0xffff_ffff h),
-    (word (codes "name") refl, found_name k (λ (p : Port). p.id.0 == port.0) has_port_form (λ (p : Port). p.name) port_name_form c.ports (ports_form c form), tt)), refl)
+port_number k c port form h = (
+  (
+    word (codes "id") refl,
+    omega (arith, leb-true port.0 0xffff_ffff h),
+    (word (codes "name") refl, found_name k (λ (p : Port). p.id.0 == port.0) has_port_form (λ (p : Port). p.name) port_name_form c.ports (ports_form c form), tt),
+  ),
+  refl,
+)
 
 pub delivered : (c : Config) (port : PortNo) (services : List ServiceNo) → has_config_form c ≡ true → has_delivery_size port services ≡ true
     → IsFit 3 (delivered_value c port services)
 unfolding delivered_value
 delivered c port services form h =
-    let p = and_parts (nat_le port.0 0xffff_ffff) (list_all has_service_size services) h in
-    ((word (codes "fate") refl, word (codes "delivered") refl,
-    (word (codes "port") refl, port_number 1 c port form p.0,
-    (word (codes "services") refl, lists 1 (service_value c) has_service_size (service 0 c form) services p.1, tt))), refl)
+    let p = and_parts (nat_le port.0 0xffff_ffff) (list_all has_service_size services) h in (
+      (
+        word (codes "fate") refl,
+        word (codes "delivered") refl,
+        (
+          word (codes "port") refl,
+          port_number 1 c port form p.0,
+          (word (codes "services") refl, lists 1 (service_value c) has_service_size (service 0 c form) services p.1, tt),
+        ),
+      ),
+      refl,
+    )
 
 why_words : (w : Why) → IsUtf8 (why_word w)
 why_words Reason.NoSourcePort = word (codes "no-source-port") refl
@@ -449,10 +462,18 @@ why_rules k c Reason.TtlExpired form h = tt
 pub outcome : (c : Config) (o : Outcome) → has_config_form c ≡ true → has_outcome_size o ≡ true → IsFit 3 (outcome_value c o)
 unfolding dropped_value
 outcome c (Comes.Delivered port services) form h = delivered c port services form h
-outcome c (Comes.Dropped why) form h =
-    ((word (codes "fate") refl, word (codes "dropped") refl,
-    (word (codes "rule") refl, why_rules 1 c why form h,
-    (word (codes "why") refl, why_words why, tt))), refl)
+outcome c (Comes.Dropped why) form h = (
+  (
+    word (codes "fate") refl,
+    word (codes "dropped") refl,
+    (
+      word (codes "rule") refl,
+      why_rules 1 c why form h,
+      (word (codes "why") refl, why_words why, tt),
+    ),
+  ),
+  refl,
+)
 
 pub to_drop : IsFit 3 to_drop_value
 unfolding to_drop_value
