@@ -11,14 +11,14 @@ use Rattle.hitless_cells.specs.declared.lines.Interruption.{Interruption}
 use Rattle.inspect_json.proofs.NoFloats.{port_number}
 use Rattle.hitless_answers.specs.EditValues.{count_value, course_use, course_value, other_port_value, packet_value, refused_value}
 
-uses : (course : Course) → has_float (course_use course) ≡ false
+uses : (x : Course) → has_float (course_use x) ≡ false
 uses Inside = refl
 uses Passing = refl
 uses (Through use_no mirrored) = refl
 
-course : (course : Course) → has_float (course_value course) ≡ false
+way : (x : Course) → has_float (course_value x) ≡ false
 unfolding course_value
-course course = rw (uses course) refl
+way x = rw (uses x) refl
 
 other_port : (c : Config) (difference : Difference) → has_float (other_port_value c difference) ≡ false
 other_port c Is.NotOfferedBefore = refl
@@ -32,7 +32,7 @@ other_port c (Is.AnotherPort after) = port_number c after
 
 pub packet : (c : Config) (n : ℕ) (l : Interruption) → has_float (packet_value c n l) ≡ false
 unfolding packet_value
-packet c n l = rw (course l.becomes, port_number c l.from, other_port c l.difference, port_number c l.to, course l.was) refl
+packet c n l = rw (way l.becomes, port_number c l.from, other_port c l.difference, port_number c l.to, way l.was) refl
 
 pub refused : (n : ℕ) (fault : TiedFault) → has_float (refused_value n fault) ≡ false
 unfolding refused_value

@@ -1,5 +1,6 @@
 //! What the lines of JSON promise, as laws: each is the contract of a function that does nothing.
-ghost use Rattle.std.specs.Prelude.{◌≡◌, ◌<◌, ◌^◌, ℕ, IsTrue, IsUtf8};
+ghost use Rattle.std.specs.Prelude.{◌≡◌, ◌<◌, ◌^◌, ℕ, IsTrue};
+ghost use Rattle.std.specs.Str.{IsUtf8};
 ghost use Rattle.config_types.specs.Form.{has_config_form};
 ghost use Rattle.config_types.specs.declared.config.Config.{Config};
 ghost use Rattle.run_ties.specs.declared.edits.TiedFault.{TiedFault};
