@@ -168,7 +168,7 @@ fn comparison_of(found: &Found) -> Comparison
 }
 
 /// Writes what differs between two valid configurations.
-#[tactic(auto, unfolding(crate::specs::Differences::diff_text, inspect_json::specs::ChangeLines::diff_in), using(ov_io::proofs::PieceLemmas::took_nothing))]
+#[tactic(auto, unfolding(inspect_changes::specs::DifferenceLines::diff_text, inspect_json::specs::ChangeLines::diff_in), using(ov_io::proofs::PieceLemmas::took_nothing))]
 fn write_differences<K: Sink>(
     alloc: Global,
     form: Form,
