@@ -1,5 +1,5 @@
 //! What expectations promise, as laws: each is the contract of a function that does nothing.
-ghost use Rattle.std.specs.Prelude.{ℕ, ◌<◌, ◌^◌, IsTrue};
+ghost use Rattle.std.specs.Prelude.{ℕ, ◌≡◌, ◌<◌, ◌^◌, IsTrue};
 ghost use Rattle.ov_types.specs.declared.packet.Outcome.{Outcome};
 ghost use Rattle.config_types.specs.Form.{has_config_form};
 ghost use Rattle.config_types.specs.declared.config.Config.{Config};
@@ -40,4 +40,12 @@ pub fn lines_of_expectations_read_as_their_values()
     ensures unmet { (c : Config) (n : ℕ) (e : Expectable) (o : Outcome) → IsTrue (has_config_form c) → n < 2 ^ 64
         → IsTrue (has_expected_size e) → IsTrue (has_outcome_size o) → IsReadBack (unmet_value c n e o) }
     ensures counts { (packets otherwise : ℕ) → packets < 2 ^ 64 → otherwise < 2 ^ 64 → IsReadBack (counts_value packets otherwise) }
+{}
+
+/// Two outcomes that are otherwise than is expected, of one value, are one, and so are two counts.
+#[tactic(auto, using(crate::proofs::ExpectReadBack::unmet_says, crate::proofs::ExpectReadBack::counts_says))]
+pub fn lines_of_expectations_say_one_thing()
+    ensures unmet { (c d : Config) (n m : ℕ) (e f : Expectable) (o p : Outcome) → unmet_value c n e o ≡ unmet_value d m f p
+        → (n ≡ m) × (e ≡ f) × (o ≡ p) }
+    ensures counts { (n m j k : ℕ) → counts_value n j ≡ counts_value m k → (n ≡ m) × (j ≡ k) }
 {}

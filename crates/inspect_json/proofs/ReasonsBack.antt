@@ -195,18 +195,18 @@ cause_back (Of.Decided r policy mirrored) = λ i. Of.Decided r (policy_back poli
 cause_back (Of.Attached network policy) = refl
 cause_back (Of.Unrelated network) = refl
 
-abbrev list_in : {A : Type 0} → (Data → A) → Items → List A
+abbrev pub list_in : {A : Type 0} → (Data → A) → Items → List A
 list_in f no_items = []
 list_in f (item d ds) = f d ∷ list_in f ds
 
-list_back : {A : Type 0} (f : Data → A) (value : A → Data) → ((x : A) → f (value x) ≡ x) → (xs : List A) → list_in f (items_of (map value xs)) ≡ xs
+pub list_back : {A : Type 0} (f : Data → A) (value : A → Data) → ((x : A) → f (value x) ≡ x) → (xs : List A) → list_in f (items_of (map value xs)) ≡ xs
 list_back f value each [] = refl
 list_back f value each (x ∷ xs) = λ i. each x i ∷ list_back f value each xs i
 
-abbrev service_in : Data → ServiceNo
+abbrev pub service_in : Data → ServiceNo
 service_in d = record { 0 = whole (first (body d)) }
 
-service_back : (c : Config) (s : ServiceNo) → service_in (service_value c s) ≡ s
+pub service_back : (c : Config) (s : ServiceNo) → service_in (service_value c s) ≡ s
 unfolding service_value
 service_back c s = refl
 
@@ -220,7 +220,7 @@ denier_back c None = refl
 denier_back c (Some r) = refl
 
 -- the fourth letter of a word tells the reasons apart
-abbrev fourth : List ℕ → ℕ
+abbrev pub fourth : List ℕ → ℕ
 fourth (a ∷ b ∷ c ∷ d ∷ s) = d
 fourth s = 0
 
@@ -236,7 +236,7 @@ why_back c (Reason.Denied o) = ap (λ (p : Option RuleNo). Reason.Denied p) (den
 why_back c Reason.NoLabel = refl
 why_back c Reason.TtlExpired = refl
 
-abbrev port_in : Data → PortNo
+abbrev pub port_in : Data → PortNo
 port_in d = record { 0 = whole (first (body d)) }
 
 abbrev outcome_in : Data → Outcome
