@@ -1,5 +1,5 @@
 -- Regions that the same claims make, laid over one another: what both decide is one thing, and what a claim says or none.
-use Rattle.std.proofs.Common.{◌≡◌, ℕ, ◌&&◌, leb, Bool, true, false, cond, IsTrue, List, [], ◌∷◌, ◌++◌, Option, refl, sym, ap, ◌∙◌, subst, get_or, arith}
+use Rattle.std.proofs.Common.{◌≡◌, ℕ, ◌&&◌, leb, true, false, cond, IsTrue, List, [], ◌∷◌, refl, sym, ap, ◌∙◌, subst, get_or, arith}
 use Rattle.std.specs.List.{All}
 use Rattle.std.proofs.lemmas.Bool.Decides.{nat_tests}
 use Rattle.std.proofs.lemmas.List.Elements.{All-cons, All-append}
@@ -8,7 +8,7 @@ use Rattle.ov_types.specs.declared.packet.Tuple.{Tuple}
 use Rattle.policy_regions.specs.Carved.{carve}
 use Rattle.policy_regions.specs.Joining.{joined}
 use Rattle.policy_regions.specs.Overlay.{compared, compared_with, overlay}
-use Rattle.policy_regions.specs.Regions.{common, everything, has_numbers, common_range, holds, meets}
+use Rattle.policy_regions.specs.Regions.{common, everything, has_numbers, holds, meets}
 use Rattle.policy_regions.specs.declared.region.Claim.{Claim}
 use Rattle.policy_regions.specs.declared.region.DecidedRegion.{DecidedRegion}
 use Rattle.policy_regions.specs.declared.region.Region.{Region}

@@ -1,4 +1,4 @@
-use Rattle.std.proofs.Common.{◌≡◌, ◌∷◌, [], List, ap, sym, ◌∙◌}
+use Rattle.std.proofs.Common.{◌≡◌, ◌∷◌, [], List, sym, ◌∙◌}
 use Rattle.policy_regions.specs.Carved.{carve}
 use Rattle.policy_regions.specs.Joining.{joined}
 use Rattle.policy_regions.specs.Overlay.{overlay}
