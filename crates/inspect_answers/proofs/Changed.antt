@@ -20,7 +20,9 @@ use Rattle.inspect_answers.specs.declared.diffing.Comparison.{Comparison}
 use Rattle.inspect_answers.specs.declared.diffing.Comparison.TheVariants.{Same, Differs, UnfitBefore, UnfitAfter}
 use Rattle.inspect_answers.specs.declared.top.Status.TheVariants as Ended
 use Rattle.inspect_changes.proofs.WhatWent.{gone_is, is_gone}
+use Rattle.inspect_json.proofs.ReadBack.{came_reads, difference_reads, went_reads}
 use Rattle.inspect_changes.proofs.Throughout.{exact, one_line, told}
+use Rattle.inspect_answers.proofs.LineSizes.{each_difference, object_sized}
 
 alike : (found : Comparison) (text : List ℕ) → SaysWhether found text → (status_found found ≡ Ended.Done) ↔ (text ≡ [])
 alike Same text h = ((λ e. h), (λ e. refl))
@@ -58,6 +60,10 @@ took form found v w first second old new read_first read_second says taken =
       apart = λ from to t x y tuple on_x on_y. one_line v.topology w.topology c d from to t x y read_first.valid read_second.valid tuple on_x on_y;
       alike = alike found text says;
       otherwise = otherwise found text says;
+      went_reads = λ o at. went_reads c o read_first.form (object_sized c d o read_first.form at);
+      came_reads = λ o at. came_reads d o read_second.form (object_sized d c o read_second.form at);
+      reads = λ x at. difference_reads c d x read_first.form read_second.form
+          (each_difference v.topology w.topology c d read_first.form read_second.form read_first.valid read_second.valid x at);
     }
 
 -- what is promised of an answer is promised of one that has something to it

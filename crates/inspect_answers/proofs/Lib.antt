@@ -11,3 +11,9 @@ mod TookIdle
 mod TookReasons
 mod JudgedEdits
 mod Changed
+pub mod Formed
+pub mod OfEach
+pub mod RegionSizes
+pub mod RuleSizes
+pub mod LineSizes
+pub mod PacketSizes

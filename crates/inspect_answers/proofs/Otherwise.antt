@@ -1,5 +1,5 @@
 -- The lines of `expect` are of the packets whose outcome is otherwise than expected.
-use Rattle.std.proofs.Common.{◌≡◌, ◌<◌, ◌↔◌, ◌+◌, ℕ, zero, suc, Bool, true, false, cond, not, List, [], ◌∷◌, ◌++◌, Some}
+use Rattle.std.proofs.Common.{◌≡◌, ◌<◌, ◌≤◌, ◌↔◌, ◌+◌, ℕ, zero, suc, Bool, true, false, cond, not, List, [], ◌∷◌, ◌++◌, Some}
 use Rattle.std.proofs.Common.{refl, sym, ap, ◌∙◌, subst, arith, inl, inr, length, flat_map}
 use Rattle.std.specs.Prelude.{◌&&◌, slice_get, slice_index_or}
 use Rattle.std.specs.List.{All, AllPairs, Any, Contains}
@@ -47,6 +47,15 @@ count_of_lines c n (e ∷ es) =
     ∙ elim (comes_so c e) as (λ b. cond (not b) 1 0 + unmet_count c es ≡ length (cond b [] (line_of c n e ∷ []) ++ lines_from c (n + 1) es)) [
       | true ↦ let rest = count_of_lines c (n + 1) es in omega (arith, rest)
       | false ↦ let rest = count_of_lines c (n + 1) es in omega (arith, rest)
+    ]
+
+pub fewer : (c : Config) (n : ℕ) (es : List Expectation) → length (lines_from c n es) ≤ length es
+fewer c n [] = omega arith
+fewer c n (e ∷ es) =
+    let rest = fewer c (n + 1) es in
+    elim (comes_so c e) as (λ b. length (cond b [] (line_of c n e ∷ []) ++ lines_from c (n + 1) es) ≤ suc (length es)) [
+      | true ↦ omega (arith, rest)
+      | false ↦ omega (arith, rest)
     ]
 
 -- a line is of the packet at a place, of which the first has a number

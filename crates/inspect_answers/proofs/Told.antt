@@ -9,8 +9,11 @@ use Rattle.ov_json.specs.Json.{json_of}
 use Rattle.ov_types.specs.First.{same_name}
 use Rattle.ov_types.specs.declared.packet.Tuple.{Tuple}
 use Rattle.ov_types.proofs.FirstLemmas.{same_name_iff}
+use Rattle.ov_types.specs.Name.{is_name}
+use Rattle.config_types.specs.Form.{has_config_form}
 use Rattle.config_types.specs.declared.config.Config.{Config}
 use Rattle.config_types.specs.declared.config.Network.{Network}
+use Rattle.config_types.specs.declared.topology.Topology.{Topology}
 use Rattle.config_model.specs.Faults.{Fault}
 use Rattle.config_model.specs.Input.{compile_at}
 use Rattle.config_model.specs.declared.input.CompileInput.{CompileInput}
@@ -22,7 +25,9 @@ use Rattle.policy_rules.proofs.Lists.{joined_is, is_joined, is_mapped, mapped_is
 use Rattle.policy_regions.specs.Parts.{IsTuple}
 use Rattle.inspect_answers.specs.Answers.{Answer, IsAnswer, WasGiven, answer_unless, judged, missing_of, of_json, ways_answer, ways_reading, ways_value}
 use Rattle.inspect_changes.specs.Lines.{is_asked}
-use Rattle.inspect_answers.specs.Promise.{IsAskedFor, IsLetBetween, IsWrittenIn, Line, Tells, TookWays, line_in, lines_of, network_lines, pair_lines}
+use Rattle.inspect_answers.specs.Promise.{IsAskedFor, IsLetBetween, IsWrittenIn, Line, Tells, TookWays, line_in, line_value, lines_of, network_lines, pair_lines}
+use Rattle.inspect_answers.specs.InForm.{AreWrittenInForm}
+use Rattle.inspect_answers.proofs.Formed.{in_form}
 use Rattle.inspect_answers.specs.Runs.{status_of}
 use Rattle.inspect_changes.specs.Ways.{IsLetThrough, ways_between}
 use Rattle.inspect_changes.specs.declared.pairs.Pairs.{Pairs}
@@ -33,8 +38,11 @@ use Rattle.inspect_answers.specs.declared.verdict.Verdict.TheVariants.{Good}
 use Rattle.inspect_changes.specs.declared.way.Passage.{Passage}
 use Rattle.inspect_changes.specs.declared.way.Way.{Way}
 use Rattle.inspect_changes.proofs.Exact.{let_through, on_one, on_one_at_most}
+use Rattle.inspect_json.specs.Form.{IsReadBack}
 use Rattle.inspect_json.specs.WayLines.{network_in, pair_in, way_in, ways_in}
+use Rattle.inspect_json.proofs.ReadBack.{way_reads}
 use Rattle.inspect_json.specs.declared.form.Form.{Form}
+use Rattle.inspect_answers.proofs.LineSizes.{network_form, way_sized}
 
 -- the text
 
@@ -149,6 +157,19 @@ is_told pairs c a b t d passage h between =
       goes = found.goes;
     }
 
+-- what lines of JSON read as
+
+pub line_reads : (t : Topology) (pairs : Pairs) (c : Config) → has_config_form c ≡ true → first_broken t c ≡ None → (line : Line)
+    → Contains (lines_of pairs c) line → IsReadBack (line_value c line)
+line_reads t pairs c form valid line at =
+    let first = joined_is (network_lines pairs c) c.networks line at in
+    let second = joined_is (pair_lines pairs c first.0) c.networks line first.2 in
+    let pair = pair_is pairs c first.0 second.0 line second.2 in
+    let from_named = (network_form c first.0 form first.1).name in
+    let to_named = (network_form c second.0 form second.1).name in
+    way_reads c line.from.name line.to.name line.way form (subst (λ (n : Network). is_name n.name ≡ true) (sym pair.1.from) from_named)
+    (subst (λ (n : Network). is_name n.name ≡ true) (sym pair.1.to) to_named) (way_sized t c first.0 second.0 line.way form valid pair.1.way)
+
 -- the input
 
 -- a valid configuration was read, and its ways are the text
@@ -182,9 +203,10 @@ unfolding ways_answer
 is_good form pairs octets h = by_json form pairs octets (json_of octets) refl refl h
 
 pub took_ways : (form : Form) (pairs : Pairs) (octets : List ℕ) (verdict : Verdict) (old new : Option (List ℕ)) → WasGiven (ways_answer form pairs octets) verdict old new
-    → IsAnswer verdict → (status_of verdict ≡ Ended.Done) × TookWays form pairs octets old new
-took_ways form pairs octets verdict old new given answers =
+    → (IsAnswer verdict → AreWrittenInForm octets) → IsAnswer verdict → (status_of verdict ≡ Ended.Done) × TookWays form pairs octets old new
+took_ways form pairs octets verdict old new given of_form answers =
     let good = is_good form pairs octets (subst IsAnswer given.is answers) in
+    let formed : has_config_form good.input.config ≡ true = in_form (compile_at []) (λ p. p.config) octets good.written.0 good.input (of_form answers) good.written.1 good.written.2 in
     let same : (ways_answer form pairs octets).text ≡ flat_map (line_in form good.input.config) (lines_of pairs good.input.config) =
     ap (λ (a : Answer). a.text) good.is ∙ text_of_lines form pairs good.input.config in
     let verdict_is : verdict ≡ Good = given.is ∙ ap (λ (a : Answer). a.verdict) good.is in (
@@ -197,5 +219,6 @@ took_ways form pairs octets verdict old new given answers =
         taken = subst (λ (t : List ℕ). Appends old new t) same given.taken;
         exact = λ a b t d passage h. (told pairs good.input.config a b t d passage h, is_told pairs good.input.config a b t d passage h);
         apart = on_one_at_most good.input.config;
+        reads = line_reads good.input.topology pairs good.input.config formed good.valid;
       },
     )

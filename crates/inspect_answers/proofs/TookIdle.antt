@@ -1,8 +1,9 @@
 -- What is taken of the answer of `unused` is as it promises.
-use Rattle.std.proofs.Common.{◌≡◌, ℕ, List, [], Option, Some, None, Result, Ok, Err, refl, ap, ◌∙◌, subst}
+use Rattle.std.proofs.Common.{◌≡◌, true, ℕ, List, [], Option, Some, None, Result, Ok, Err, refl, ap, ◌∙◌, subst}
 use Rattle.std.specs.Io.KnownBytes.{Appends}
 use Rattle.serde_json.specs.Data.{Data}
 use Rattle.ov_json.specs.Json.{json_of}
+use Rattle.config_types.specs.Form.{has_config_form}
 use Rattle.config_model.specs.Faults.{Fault}
 use Rattle.config_model.specs.Input.{compile_at}
 use Rattle.config_model.specs.declared.input.CompileInput.{CompileInput}
@@ -14,12 +15,16 @@ use Rattle.inspect_rules.specs.Idle.{idle}
 use Rattle.inspect_answers.specs.IdleLines.{idle_in}
 use Rattle.inspect_answers.specs.Unused.{TookUnused}
 use Rattle.inspect_answers.specs.Promise.{IsWrittenIn}
+use Rattle.inspect_answers.specs.InForm.{AreWrittenInForm}
+use Rattle.inspect_answers.proofs.Formed.{in_form}
 use Rattle.inspect_answers.specs.Runs.{status_of}
 use Rattle.inspect_answers.specs.declared.top.Status.TheVariants as Ended
 use Rattle.inspect_answers.specs.declared.verdict.Verdict.{Verdict}
 use Rattle.inspect_answers.specs.declared.verdict.Verdict.TheVariants.{Good}
 use Rattle.inspect_rules.proofs.Unneeded.{all_idle}
 use Rattle.inspect_json.specs.declared.form.Form.{Form}
+use Rattle.inspect_json.proofs.ReadBack.{idle_reads}
+use Rattle.inspect_answers.proofs.LineSizes.{idle_sized}
 
 -- a valid configuration was read, and what is idle of it is the text
 record IsGood (form : Form) (octets : List ℕ) : Type 0 where
@@ -51,9 +56,11 @@ unfolding unused_answer
 is_good form octets h = by_json form octets (json_of octets) refl refl h
 
 pub took_unused : (form : Form) (octets : List ℕ) (verdict : Verdict) (old new : Option (List ℕ)) → WasGiven (unused_answer form octets) verdict old new
-    → IsAnswer verdict → (status_of verdict ≡ Ended.Done) × TookUnused form octets old new
-took_unused form octets verdict old new given answers =
+    → (IsAnswer verdict → AreWrittenInForm octets) → IsAnswer verdict → (status_of verdict ≡ Ended.Done) × TookUnused form octets old new
+took_unused form octets verdict old new given of_form answers =
     let good = is_good form octets (subst IsAnswer given.is answers) in
+    let c = good.input.config in
+    let formed : has_config_form c ≡ true = in_form (compile_at []) (λ p. p.config) octets good.written.0 good.input (of_form answers) good.written.1 good.written.2 in
     let verdict_is : verdict ≡ Good = given.is ∙ ap (λ (a : Answer). a.verdict) good.is in (
       ap status_of verdict_is,
       record {
@@ -62,6 +69,7 @@ took_unused form octets verdict old new given answers =
         valid = good.valid;
         found = idle good.input.config;
         taken = subst (λ (t : List ℕ). Appends old new t) (ap (λ (a : Answer). a.text) good.is) given.taken;
-        exact = all_idle good.input.topology good.input.config good.valid;
+        exact = all_idle good.input.topology c good.valid;
+        reads = λ x at. idle_reads c x formed (idle_sized good.input.topology c formed good.valid x at);
       },
     )

@@ -14,6 +14,8 @@ use Rattle.policy_regions.specs.Parts.{IsTuple}
 use Rattle.inspect_changes.specs.Deliveries.{GoesBetween, delivery_in}
 use Rattle.inspect_changes.specs.DifferenceLines.{lists_text}
 use Rattle.inspect_json.specs.ChangeLines.{lists_in}
+use Rattle.inspect_json.specs.ChangeValues.{came_value, difference_value, went_value}
+use Rattle.inspect_json.specs.Form.{IsReadBack}
 use Rattle.inspect_json.specs.declared.form.Form.{Form}
 use Rattle.inspect_changes.specs.Fates.{passage}
 use Rattle.inspect_changes.specs.Objects.{objects_of}
@@ -43,7 +45,8 @@ AreGone went v w = (o : Object) → Contains went o ↔ (Contains (objects_of v.
 -- two inputs have valid configurations, and these lines were taken, in the form that is asked for: of the objects that one of
 -- the two has alone, and of differences. Where no line of what went names a packet's networks and ports, whether it is delivered to its port, or by
 -- which services, differs exactly where a line of its networks holds it; then it was delivered as that line says, and is;
--- no two lines of two networks hold one packet; and the run ends so where there is no line, and so where there is one
+-- no two lines of two networks hold one packet; the run ends so where there is no line, and so where there is one; and the JSON
+-- of each line reads as what it says
 pub record TookDifferences (form : Form) (status : Status) (first second : List ℕ) (old new : Option (List ℕ)) : Type 0 where
   pub before : Checked
   pub after : Checked
@@ -63,3 +66,6 @@ pub record TookDifferences (form : Form) (status : Status) (first second : List 
   pub apart : (from to : List ℕ) (t : Tuple) (x y : Difference) → IsTuple t → IsOnLine lines from to t x → IsOnLine lines from to t y → x ≡ y
   pub alike : (status ≡ Ended.Done) ↔ (lists_text went came lines ≡ [])
   pub otherwise : (status ≡ Ended.Differs) ↔ (lists_text went came lines ≢ [])
+  pub went_reads : (o : Object) → Contains went o → IsReadBack (went_value before.config o)
+  pub came_reads : (o : Object) → Contains came o → IsReadBack (came_value after.config o)
+  pub reads : (x : Difference) → Contains lines x → IsReadBack (difference_value before.config after.config x)

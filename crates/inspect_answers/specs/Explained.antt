@@ -1,5 +1,6 @@
 -- What is answered to `why`: the outcome of each packet, and what it comes of.
-use Rattle.std.specs.Prelude.{◌≡◌, ℕ, ◌+◌, List, [], ◌∷◌, ◌++◌, flat_map, length, slice_get, Option, Some, None, Ok}
+use Rattle.std.specs.Prelude.{◌≡◌, ◌<◌, ◌^◌, ℕ, ◌+◌, List, [], ◌∷◌, ◌++◌, flat_map, length, slice_get, Option, Some, None, Ok}
+use Rattle.std.specs.List.{Contains}
 use Rattle.std.specs.Io.KnownBytes.{Appends}
 use Rattle.serde_json.specs.Data.{Data}
 use Rattle.ov_json.specs.Json.{json_of}
@@ -15,7 +16,7 @@ use Rattle.inspect_reasons.specs.CauseLines.{cause_line}
 use Rattle.inspect_reasons.specs.Causes.{causes}
 use Rattle.inspect_reasons.specs.Explaining.{Explain}
 use Rattle.inspect_reasons.specs.declared.cause.Cause.{Cause}
-use Rattle.inspect_json.specs.Form.{json_line}
+use Rattle.inspect_json.specs.Form.{IsReadBack, json_line}
 use Rattle.inspect_json.specs.ReasonValues.{explained_value}
 use Rattle.inspect_json.specs.declared.form.Form.{Form}
 use Rattle.inspect_json.specs.declared.form.Form.TheVariants.{Text, Json}
@@ -50,6 +51,10 @@ pub record Explained : Type 0 where
 abbrev pub told_in : Form → Config → Explained → List ℕ
 told_in form c x = explained_in form c x.number x.outcome x.causes
 
+-- what a line of JSON says
+abbrev pub told_value : Config → Explained → Data
+told_value c x = explained_value c x.number x.outcome x.causes
+
 -- a packet is explained: its number counts from 1, its outcome is what becomes of it, and the causes explain that
 pub record IsExplained (c : Config) (place : ℕ) (p : Packet) (x : Explained) : Type 0 where
   pub number : x.number ≡ place + 1
@@ -60,8 +65,8 @@ pub record IsExplained (c : Config) (place : ℕ) (p : Packet) (x : Explained) :
 abbrev pub IsAskedIn : List ℕ → ReachInput → Type 0
 IsAskedIn octets r = (d : Data) × (json_of octets ≡ Some d) × (reach_at [] d ≡ Ok r)
 
--- the input has a valid configuration and packets, and what is told of each packet was taken in the form that is asked for, in
--- their order
+-- the input has a valid configuration and packets, what is told of each packet was taken in the form that is asked for, in their
+-- order, and the JSON of each reads as what it says (of fewer than 2 ^ 64 packets)
 pub record TookExplained (form : Form) (octets : List ℕ) (old new : Option (List ℕ)) : Type 0 where
   pub read : ReachInput
   pub written : IsAskedIn octets read
@@ -71,3 +76,4 @@ pub record TookExplained (form : Form) (octets : List ℕ) (old new : Option (Li
   pub many : length explained ≡ length read.packets
   pub each : (place : ℕ) (p : Packet) (x : Explained) → slice_get read.packets place ≡ Some p → slice_get explained place ≡ Some x
       → IsExplained read.input.config place p x
+  pub reads : length read.packets < 2 ^ 64 → (x : Explained) → Contains explained x → IsReadBack (told_value read.input.config x)

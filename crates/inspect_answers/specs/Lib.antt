@@ -7,6 +7,7 @@ pub mod Explained
 pub mod Answers
 pub mod Differences
 pub mod Commands
+pub mod InForm
 pub mod Promise
 pub mod Unmet
 pub mod Unused

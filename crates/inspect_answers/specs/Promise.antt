@@ -19,6 +19,8 @@ use Rattle.inspect_changes.specs.declared.pairs.Pairs.{Pairs}
 use Rattle.inspect_changes.specs.declared.pairs.Pairs.TheVariants.{All, Between}
 use Rattle.inspect_changes.specs.declared.way.Passage.{Passage}
 use Rattle.inspect_changes.specs.declared.way.Way.{Way}
+use Rattle.inspect_json.specs.Form.{IsReadBack}
+use Rattle.inspect_json.specs.Values.{way_value}
 use Rattle.inspect_json.specs.WayLines.{way_in}
 use Rattle.inspect_json.specs.declared.form.Form.{Form}
 
@@ -30,6 +32,10 @@ pub record Line : Type 0 where
 
 abbrev pub line_in : Form → Config → Line → List ℕ
 line_in form c l = way_in form c l.from.name l.to.name l.way
+
+-- what a line of JSON says
+abbrev pub line_value : Config → Line → Data
+line_value c l = way_value c l.from.name l.to.name l.way
 
 -- the lines of two networks, where these are asked for
 abbrev pub pair_lines : Pairs → Config → Network → Network → List Line
@@ -70,7 +76,7 @@ IsWrittenIn octets p = (d : Data) × (json_of octets ≡ Some d) × (compile_at 
 
 -- the input has a valid configuration, and these lines of it were taken, in the form that is asked for: one holds a tuple of a
 -- packet from one network to another exactly where these are asked for and the rule that decides lets it through, with that
--- rule and so
+-- rule and so; and the JSON of each line reads as what it says
 pub record TookWays (form : Form) (pairs : Pairs) (octets : List ℕ) (old new : Option (List ℕ)) : Type 0 where
   pub input : CompileInput
   pub written : IsWrittenIn octets input
@@ -80,3 +86,4 @@ pub record TookWays (form : Form) (pairs : Pairs) (octets : List ℕ) (old new :
   pub exact : (a b : Network) (t : Tuple) (d : Decision) (passage : Passage) → IsTuple t
       → Tells lines a b t d passage ↔ IsLetBetween pairs input.config a b t d passage
   pub apart : (a b : Network) (t : Tuple) → IsTuple t → IsOnOneAtMost (ways_between input.config a b) t
+  pub reads : (line : Line) → Contains lines line → IsReadBack (line_value input.config line)

@@ -1,9 +1,11 @@
 //! The answer to a document.
-ghost use Rattle.std.specs.Prelude.{◌≡◌, IfOk, IfErr, OnErr};
+ghost use Rattle.std.specs.Prelude.{◌≡◌, IfOk, IfErr, OnErr, [], OnOk};
 ghost use Rattle.serde_json.specs.View.{view};
 ghost use Rattle.ov_io.specs.Inputs.{TookFront};
 ghost use Rattle.ov_io.specs.Pieces.{HasWriteCause};
 ghost use Rattle.compile_answers.specs.Answers.{answer_good};
+ghost use Rattle.config_model.specs.Input.{compile_at};
+ghost use Rattle.inspect_answers.specs.InForm.{AreWrittenInForm, ReadsInForm};
 ghost use Rattle.inspect_answers.specs.Answers.{IsAnswer, IsUnfit, WasGiven, answer, judged, missing, missing_of};
 ghost use Rattle.inspect_answers.specs.Answers.{valid_answer, ways_answer, ways_value};
 ghost use Rattle.inspect_json.specs.WayLines.{ways_in};
@@ -65,11 +67,12 @@ fn having(pairs: &Pairs, valid: Valid) -> Result<Valid, Unfit>
 }
 
 /// What is taken from a value.
-#[tactic(auto, using(crate::proofs::Unfitting::unfit_anyway), unfolding(crate::specs::Answers::ways_value))]
+#[tactic(auto, using(crate::proofs::Unfitting::unfit_anyway, crate::proofs::Formed::reads_in_form), unfolding(crate::specs::Answers::ways_value))]
 fn ways_taken(alloc: Global, pairs: &Pairs, value: &Value) -> Result<Valid, Unfit>
     ensures fit { (form : LineForm) → IfOk result (λ valid. ways_value form pairs.now (view value.now)
         ≡ judged (answer_good (ways_in form pairs.now valid.config))) }
     ensures unfit { (form : LineForm) → IfErr result (λ unfit. IsUnfit unfit (ways_value form pairs.now (view value.now))) }
+    ensures in_form { OnOk result (ReadsInForm (compile_at []) (λ p. p.config) (view value.now)) }
 {
     match read_compile(alloc, value) {
         Ok(input) => match valid_of(alloc, input) {
@@ -82,11 +85,12 @@ fn ways_taken(alloc: Global, pairs: &Pairs, value: &Value) -> Result<Valid, Unfi
 }
 
 /// What is taken from an input.
-#[tactic(auto, unfolding(crate::specs::Answers::ways_answer))]
+#[tactic(auto, using(crate::proofs::Formed::are_in_form), unfolding(crate::specs::Answers::ways_answer))]
 fn ways_asked(alloc: Global, pairs: &Pairs, octets: &[u8]) -> Result<Valid, Unfit>
     ensures fit { (form : LineForm) → IfOk result (λ valid. ways_answer form pairs.now octets.now
         ≡ judged (answer_good (ways_in form pairs.now valid.config))) }
     ensures unfit { (form : LineForm) → IfErr result (λ unfit. IsUnfit unfit (ways_answer form pairs.now octets.now)) }
+    ensures in_form { OnOk result (AreWrittenInForm octets.now) }
 {
     match value_of(alloc, octets) {
         Ok(Some(value)) => ways_taken(alloc, pairs, &value),
@@ -108,6 +112,7 @@ fn answer_ways<K: Sink>(
     ensures front { OnErr result (TookFront (K.taken sink.old) (K.taken sink.new)
         (ways_answer form pairs.now octets.now).text) }
     ensures cause { HasWriteCause (K.faults sink.old) (K.faults sink.new) result }
+    ensures in_form { IfOk result (λ verdict. IsAnswer verdict → AreWrittenInForm octets.now) }
 {
     match ways_asked(alloc, pairs, octets) {
         Ok(valid) => {

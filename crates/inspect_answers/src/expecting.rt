@@ -1,10 +1,12 @@
 //! The answer of `expect`.
-ghost use Rattle.std.specs.Prelude.{◌≡◌, ◌≤◌, ◌∷◌, ◌++◌, [], length, IfOk, IfErr, OnErr};
+ghost use Rattle.std.specs.Prelude.{◌≡◌, ◌≤◌, ◌∷◌, ◌++◌, [], length, IfOk, IfErr, OnErr, OnOk};
 ghost use Rattle.std.specs.Io.KnownBytes.{Appends};
 ghost use Rattle.serde_json.specs.View.{view};
 ghost use Rattle.ov_io.specs.Inputs.{TookFront};
 ghost use Rattle.ov_io.specs.Pieces.{HasWriteCause, IsOnItsWay};
-ghost use Rattle.inspect_answers.specs.Answers.{IsUnfit, WasGiven, expect_answer, expect_value, expected_answer};
+ghost use Rattle.inspect_answers.specs.Expectations.{expect_at};
+ghost use Rattle.inspect_answers.specs.InForm.{AreExpectedInForm, ReadsInForm};
+ghost use Rattle.inspect_answers.specs.Answers.{IsAnswer, IsUnfit, WasGiven, expect_answer, expect_value, expected_answer};
 ghost use Rattle.inspect_answers.specs.Expecting as expecting;
 ghost use Rattle.inspect_answers.specs.Expecting.{counts_in, drop_is_met, expect_in, unmet_count};
 ghost use Rattle.inspect_answers.specs.Expecting.{unmet_from, unmet_in};
@@ -156,11 +158,12 @@ struct Question {
 }
 
 /// What `expect` takes from a value.
-#[tactic(auto, using(crate::proofs::Unfitting::unfit_anyway), unfolding(crate::specs::Answers::expect_value))]
+#[tactic(auto, using(crate::proofs::Unfitting::unfit_anyway, crate::proofs::Formed::reads_in_form), unfolding(crate::specs::Answers::expect_value))]
 fn expect_taken(alloc: Global, value: &Value) -> Result<Question, Unfit>
     ensures fit { (form : LineForm) → IfOk result (λ asked. expect_value form (view value.now)
         ≡ expected_answer form asked.valid.config asked.packets) }
     ensures unfit { (form : LineForm) → IfErr result (λ unfit. IsUnfit unfit (expect_value form (view value.now))) }
+    ensures in_form { OnOk result (ReadsInForm (expect_at []) (λ r. r.input.config) (view value.now)) }
 {
     match read_expect(alloc, value) {
         Ok(ExpectInput { input, packets }) => match valid_of(alloc, input) {
@@ -173,11 +176,12 @@ fn expect_taken(alloc: Global, value: &Value) -> Result<Question, Unfit>
 }
 
 /// What `expect` takes from an input.
-#[tactic(auto, unfolding(crate::specs::Answers::expect_answer))]
+#[tactic(auto, using(crate::proofs::Formed::are_in_form), unfolding(crate::specs::Answers::expect_answer))]
 fn expect_asked(alloc: Global, octets: &[u8]) -> Result<Question, Unfit>
     ensures fit { (form : LineForm)
         → IfOk result (λ asked. expect_answer form octets.now ≡ expected_answer form asked.valid.config asked.packets) }
     ensures unfit { (form : LineForm) → IfErr result (λ unfit. IsUnfit unfit (expect_answer form octets.now)) }
+    ensures in_form { OnOk result (AreExpectedInForm octets.now) }
 {
     match value_of(alloc, octets) {
         Ok(Some(value)) => expect_taken(alloc, &value),
@@ -197,6 +201,7 @@ pub(crate) fn answer_expect<K: Sink>(
         (K.taken sink.old) (K.taken sink.new)) }
     ensures front { OnErr result (TookFront (K.taken sink.old) (K.taken sink.new) (expect_answer form octets.now).text) }
     ensures cause { HasWriteCause (K.faults sink.old) (K.faults sink.new) result }
+    ensures in_form { IfOk result (λ verdict. IsAnswer verdict → AreExpectedInForm octets.now) }
 {
     match expect_asked(alloc, octets) {
         Ok(asked) => write_expected(alloc, form, &asked.valid, asked.packets.as_slice(), sink),

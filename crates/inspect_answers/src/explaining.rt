@@ -7,7 +7,9 @@ ghost use Rattle.ov_io.specs.Pieces.{HasWriteCause, IsOnItsWay};
 ghost use Rattle.compile_answers.specs.Answers.{answer_good};
 ghost use Rattle.inspect_json.specs.declared.form.Form.{Form as LineForm};
 ghost use Rattle.inspect_reasons.specs.CauseLines.{cause_line};
-ghost use Rattle.inspect_answers.specs.Answers.{IsUnfit, WasGiven, judged, why_answer, why_value};
+ghost use Rattle.config_model.specs.Input.{reach_at};
+ghost use Rattle.inspect_answers.specs.InForm.{AreAskedInForm, ReadsInForm};
+ghost use Rattle.inspect_answers.specs.Answers.{IsAnswer, IsUnfit, WasGiven, judged, why_answer, why_value};
 ghost use Rattle.inspect_answers.specs.Explained.{explained_in, explained_text, packet_in, packets_from, why_in};
 
 use crate::verdict::{Verdict, answer_unfit};
@@ -157,11 +159,12 @@ struct Question {
 }
 
 /// What `why` takes from a value.
-#[tactic(auto, using(crate::proofs::Unfitting::unfit_anyway), unfolding(crate::specs::Answers::why_value))]
+#[tactic(auto, using(crate::proofs::Unfitting::unfit_anyway, crate::proofs::Formed::reads_in_form), unfolding(crate::specs::Answers::why_value))]
 fn why_taken(alloc: Global, value: &Value) -> Result<Question, Unfit>
     ensures fit { (form : LineForm) → IfOk result (λ asked. why_value form (view value.now)
         ≡ judged (answer_good (why_in form asked.valid.config asked.packets))) }
     ensures unfit { (form : LineForm) → IfErr result (λ unfit. IsUnfit unfit (why_value form (view value.now))) }
+    ensures in_form { OnOk result (ReadsInForm (reach_at []) (λ r. r.input.config) (view value.now)) }
 {
     match read_reach(alloc, value) {
         Ok(ReachInput { input, packets }) => match valid_of(alloc, input) {
@@ -174,11 +177,12 @@ fn why_taken(alloc: Global, value: &Value) -> Result<Question, Unfit>
 }
 
 /// What `why` takes from an input.
-#[tactic(auto, unfolding(crate::specs::Answers::why_answer))]
+#[tactic(auto, using(crate::proofs::Formed::are_in_form), unfolding(crate::specs::Answers::why_answer))]
 fn why_asked(alloc: Global, octets: &[u8]) -> Result<Question, Unfit>
     ensures fit { (form : LineForm) → IfOk result (λ asked. why_answer form octets.now
         ≡ judged (answer_good (why_in form asked.valid.config asked.packets))) }
     ensures unfit { (form : LineForm) → IfErr result (λ unfit. IsUnfit unfit (why_answer form octets.now)) }
+    ensures in_form { OnOk result (AreAskedInForm octets.now) }
 {
     match value_of(alloc, octets) {
         Ok(Some(value)) => why_taken(alloc, &value),
@@ -198,6 +202,7 @@ pub(crate) fn answer_why<K: Sink>(
         (K.taken sink.old) (K.taken sink.new)) }
     ensures front { OnErr result (TookFront (K.taken sink.old) (K.taken sink.new) (why_answer form octets.now).text) }
     ensures cause { HasWriteCause (K.faults sink.old) (K.faults sink.new) result }
+    ensures in_form { IfOk result (λ verdict. IsAnswer verdict → AreAskedInForm octets.now) }
 {
     match why_asked(alloc, octets) {
         Ok(asked) => {

@@ -1,11 +1,13 @@
 //! The answer of `unused`.
-ghost use Rattle.std.specs.Prelude.{◌≡◌, flat_map, IfOk, IfErr, OnOk, OnErr};
+ghost use Rattle.std.specs.Prelude.{◌≡◌, flat_map, IfOk, IfErr, OnOk, OnErr, []};
 ghost use Rattle.std.specs.Io.KnownBytes.{Appends};
 ghost use Rattle.serde_json.specs.View.{view};
 ghost use Rattle.ov_io.specs.Inputs.{TookFront};
 ghost use Rattle.ov_io.specs.Pieces.{HasWriteCause};
 ghost use Rattle.compile_answers.specs.Answers.{answer_good};
-ghost use Rattle.inspect_answers.specs.Answers.{IsUnfit, WasGiven, judged, unused_answer, unused_value};
+ghost use Rattle.config_model.specs.Input.{compile_at};
+ghost use Rattle.inspect_answers.specs.InForm.{AreWrittenInForm, ReadsInForm};
+ghost use Rattle.inspect_answers.specs.Answers.{IsAnswer, IsUnfit, WasGiven, judged, unused_answer, unused_value};
 ghost use Rattle.inspect_answers.specs.IdleLines.{idle_in, idle_line_in};
 ghost use Rattle.inspect_json.specs.declared.form.Form.{Form as LineForm};
 
@@ -24,11 +26,12 @@ use serde_json::Value;
 use std::alloc::Global;
 
 /// What `unused` takes from a value.
-#[tactic(auto, using(crate::proofs::Unfitting::unfit_anyway), unfolding(crate::specs::Answers::unused_value))]
+#[tactic(auto, using(crate::proofs::Unfitting::unfit_anyway, crate::proofs::Formed::reads_in_form), unfolding(crate::specs::Answers::unused_value))]
 fn unused_taken(alloc: Global, value: &Value) -> Result<Valid, Unfit>
     ensures fit { (form : LineForm)
         → IfOk result (λ valid. unused_value form (view value.now) ≡ judged (answer_good (idle_in form valid.config))) }
     ensures unfit { (form : LineForm) → IfErr result (λ unfit. IsUnfit unfit (unused_value form (view value.now))) }
+    ensures in_form { OnOk result (ReadsInForm (compile_at []) (λ p. p.config) (view value.now)) }
 {
     match read_compile(alloc, value) {
         Ok(input) => valid_of(alloc, input),
@@ -38,11 +41,12 @@ fn unused_taken(alloc: Global, value: &Value) -> Result<Valid, Unfit>
 }
 
 /// What `unused` takes from an input.
-#[tactic(auto, unfolding(crate::specs::Answers::unused_answer))]
+#[tactic(auto, using(crate::proofs::Formed::are_in_form), unfolding(crate::specs::Answers::unused_answer))]
 fn unused_asked(alloc: Global, octets: &[u8]) -> Result<Valid, Unfit>
     ensures fit { (form : LineForm)
         → IfOk result (λ valid. unused_answer form octets.now ≡ judged (answer_good (idle_in form valid.config))) }
     ensures unfit { (form : LineForm) → IfErr result (λ unfit. IsUnfit unfit (unused_answer form octets.now)) }
+    ensures in_form { OnOk result (AreWrittenInForm octets.now) }
 {
     match value_of(alloc, octets) {
         Ok(Some(value)) => unused_taken(alloc, &value),
@@ -100,6 +104,7 @@ pub(crate) fn answer_unused<K: Sink>(
         (K.taken sink.old) (K.taken sink.new)) }
     ensures front { OnErr result (TookFront (K.taken sink.old) (K.taken sink.new) (unused_answer form octets.now).text) }
     ensures cause { HasWriteCause (K.faults sink.old) (K.faults sink.new) result }
+    ensures in_form { IfOk result (λ verdict. IsAnswer verdict → AreWrittenInForm octets.now) }
 {
     match unused_asked(alloc, octets) {
         Ok(valid) => {
