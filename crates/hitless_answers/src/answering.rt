@@ -8,7 +8,7 @@ ghost use Rattle.compile_answers.specs.Answers.{WasGiven};
 ghost use Rattle.hitless_answers.specs.Answers.{FitsEdits, hitless_answer, hitless_taken, input_of};
 ghost use Rattle.hitless_laws.specs.Keeping.{IsValidAsWritten};
 ghost use Rattle.hitless_answers.specs.Judging.{judgements, standing_first};
-ghost use Rattle.hitless_answers.specs.Promise.{AreSaidOf, TookJudgements};
+ghost use Rattle.hitless_answers.specs.Promise.{AllReadSo, AreSaidOf, TookJudgements};
 ghost use Rattle.hitless_answers.specs.Reading.{hitless_at};
 
 use crate::input::HitlessInput;
@@ -48,11 +48,12 @@ impl Question for AskedEdits {
     }
 }
 
-/// What is said of edits.
+/// What is said of edits, and what its JSON reads as.
 fn know_judgements(valid: &Valid, edits: &[Edit])
     requires { IsTrue (list_all has_edit_form edits.now) }
     ensures written { IsValidAsWritten valid.now }
     ensures said { AreSaidOf (standing_first valid.now) edits.now (judgements edits.now (standing_first valid.now)) }
+    ensures read { AllReadSo 1 edits.now (standing_first valid.now) (judgements edits.now (standing_first valid.now)) }
 {
     know_written(valid);
 }
