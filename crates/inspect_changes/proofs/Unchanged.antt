@@ -5,10 +5,7 @@ use Rattle.ov_types.proofs.FirstLemmas.{all_head, all_tail}
 use Rattle.std.proofs.lemmas.List.Elements.{All-cons}
 use Rattle.config_types.specs.declared.config.Config.{Config}
 use Rattle.config_types.specs.declared.config.Network.{Network}
-use Rattle.policy_regions.specs.Carved.{carve}
-use Rattle.policy_regions.specs.Joining.{joined}
-use Rattle.policy_regions.specs.Overlay.{overlay}
-use Rattle.policy_regions.specs.Regions.{everything}
+use Rattle.policy_regions.specs.Overlay.{laid_by}
 use Rattle.policy_regions.specs.Sameness.{same_claims}
 use Rattle.policy_regions.specs.declared.region.Claim.{Claim}
 use Rattle.policy_regions.specs.declared.overlays.Compared.{Compared}
@@ -47,5 +44,5 @@ nothing_new c a b d ks ls h =
     let same : ks ≡ ls = claims_are ks ls (and_first (same_claims ks ls) rest h) in
     let keep = each_stays a.name b.name c d ks (and_second (same_claims ks ls) rest h) in
     subst (λ (ms : List Claim). differences_by c a b d ks ms ≡ []) same
-    (all_none a.name b.name c d (overlay (joined (carve ks (everything ∷ []))) (joined (carve ks (everything ∷ []))))
+    (all_none a.name b.name c d (laid_by ks ks)
     (all_alike (P a.name b.name c d) ks refl keep))

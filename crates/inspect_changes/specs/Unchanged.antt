@@ -1,13 +1,10 @@
 -- Claims by which nothing becomes of packets in one configuration that does not in another.
-use Rattle.std.specs.Prelude.{◌&&◌, [], ◌∷◌, Bool, List, Option, Some, flat_map}
+use Rattle.std.specs.Prelude.{◌&&◌, Bool, List, Option, Some, flat_map}
 use Rattle.std.specs.List.{list_all}
 use Rattle.config_types.specs.declared.config.Config.{Config}
 use Rattle.config_types.specs.declared.config.Network.{Network}
 use Rattle.policy_rules.specs.declared.matching.Decision.{Decision}
-use Rattle.policy_regions.specs.Carved.{carve}
-use Rattle.policy_regions.specs.Joining.{joined}
-use Rattle.policy_regions.specs.Overlay.{overlay}
-use Rattle.policy_regions.specs.Regions.{everything}
+use Rattle.policy_regions.specs.Overlay.{laid_by}
 use Rattle.policy_regions.specs.Sameness.{same_claims}
 use Rattle.policy_regions.specs.declared.region.Claim.{Claim}
 use Rattle.policy_regions.specs.declared.region.Effect.{Effect}
@@ -24,5 +21,4 @@ stay c d ks ls = same_claims ks ls && list_all (λ k. stays_by c d (Some k.decis
 
 -- the differences between two networks by what the rules between them claim before and after
 abbrev pub differences_by : Config → Network → Network → Config → List Claim → List Claim → List Difference
-differences_by c a b d ks ls =
-    flat_map (differences_of a.name b.name c d) (overlay (joined (carve ks (everything ∷ []))) (joined (carve ls (everything ∷ []))))
+differences_by c a b d ks ls = flat_map (differences_of a.name b.name c d) (laid_by ks ls)

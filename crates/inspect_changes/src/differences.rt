@@ -185,9 +185,7 @@ fn fares_alike(before: &Valid, after: &Valid, claim: &Claim) -> bool
 fn fare_alike(before: &Valid, after: &Valid, claims: &[Claim]) -> bool
     ensures { result ≡ list_all (λ k. stays_by before.now.config after.now.config (Some k.decision) k.effect) claims.now }
 {
-    claims
-        .iter()
-        .all(|claim| fares_alike(before, after, claim))
+    claims.iter().all(|claim| fares_alike(before, after, claim))
 }
 
 /// Whether claims in two configurations are the same, and their packets fare alike.

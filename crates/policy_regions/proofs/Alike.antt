@@ -5,10 +5,9 @@ use Rattle.std.proofs.lemmas.Bool.Decides.{nat_tests}
 use Rattle.std.proofs.lemmas.List.Elements.{All-cons, All-append}
 use Rattle.ov_types.specs.First.{first_of}
 use Rattle.ov_types.specs.declared.packet.Tuple.{Tuple}
-use Rattle.policy_regions.specs.Carved.{carve}
-use Rattle.policy_regions.specs.Joining.{joined}
+use Rattle.policy_regions.specs.Joined.{made_by}
 use Rattle.policy_regions.specs.Overlay.{compared, compared_with, overlay}
-use Rattle.policy_regions.specs.Regions.{common, everything, has_numbers, holds, meets}
+use Rattle.policy_regions.specs.Regions.{common, has_numbers, holds, meets}
 use Rattle.policy_regions.specs.declared.region.Claim.{Claim}
 use Rattle.policy_regions.specs.declared.region.DecidedRegion.{DecidedRegion}
 use Rattle.policy_regions.specs.declared.region.Region.{Region}
@@ -51,25 +50,22 @@ all_held : (rs ss : List DecidedRegion) → All HasCorner (overlay rs ss)
 all_held [] ss = λ i x lt. absurd (omega (arith, lt))
 all_held (r ∷ rs) ss = All-append HasCorner (compared_with ss r) (overlay rs ss) (with_held ss r) (all_held rs ss)
 
-abbrev made : List Claim → List DecidedRegion
-made cs = joined (carve cs (everything ∷ []))
-
 -- what is decided on a region before and after, and done there, is one thing
 pub record StaysAs (P : Said → Type 0) (q : Compared) : Type 0 where
   pub decision : q.after ≡ q.before
   pub effect : q.becomes ≡ q.was
   pub said : P (q.before, q.was)
 
-pub all_alike : (P : Said → Type 0) (cs : List Claim) → P nothing → All (λ c. P (claimed c)) cs → All (StaysAs P) (overlay (made cs) (made cs))
+pub all_alike : (P : Said → Type 0) (cs : List Claim) → P nothing → All (λ c. P (claimed c)) cs → All (StaysAs P) (overlay (made_by cs) (made_by cs))
 all_alike P cs h k = λ i q lt.
-    let list : List Compared = overlay (made cs) (made cs) in
+    let list : List Compared = overlay (made_by cs) (made_by cs) in
     let t : Tuple = corner (get_or list i q).region in
     let x : Said = or_nothing (first_of (claim_on t) cs) in
-    let held : IsTrue (holds (get_or list i q).region t) = all_held (made cs) (made cs) i q lt in
-    let decides : All (λ r. IsTrue (holds r.region t) → r.decision ≡ x.0) (made cs) = λ j r less holding. ap (λ (s : Said). s.0) (one_said t cs j r less holding) in
-    let does : All (λ r. IsTrue (holds r.region t) → r.effect ≡ x.1) (made cs) = λ j r less holding. ap (λ (s : Said). s.1) (one_said t cs j r less holding) in
-    let first = all_compare t x.0 x.0 (made cs) (made cs) decides decides i q lt held in
-    let second = all_turn t x.1 x.1 (made cs) (made cs) does does i q lt held in
+    let held : IsTrue (holds (get_or list i q).region t) = all_held (made_by cs) (made_by cs) i q lt in
+    let decides : All (λ r. IsTrue (holds r.region t) → r.decision ≡ x.0) (made_by cs) = λ j r less holding. ap (λ (s : Said). s.0) (one_said t cs j r less holding) in
+    let does : All (λ r. IsTrue (holds r.region t) → r.effect ≡ x.1) (made_by cs) = λ j r less holding. ap (λ (s : Said). s.1) (one_said t cs j r less holding) in
+    let first = all_compare t x.0 x.0 (made_by cs) (made_by cs) decides decides i q lt held in
+    let second = all_turn t x.1 x.1 (made_by cs) (made_by cs) does does i q lt held in
     record {
       decision = first.1 ∙ sym first.0;
       effect = second.1 ∙ sym second.0;

@@ -1,9 +1,7 @@
 //! Regions of two configurations laid over one another, which is done once for networks between which rules claim the same.
-ghost use Rattle.std.specs.Prelude.{◌≡◌, ◌∷◌, [], IfOk, OnErr, OnOk};
-ghost use Rattle.policy_regions.specs.Carved.{carve};
-ghost use Rattle.policy_regions.specs.Joining.{joined};
-ghost use Rattle.policy_regions.specs.Overlay.{overlay};
-ghost use Rattle.policy_regions.specs.Regions.{everything};
+ghost use Rattle.std.specs.Prelude.{◌≡◌, [], IfOk, OnErr, OnOk};
+ghost use Rattle.policy_regions.specs.Joined.{made_by};
+ghost use Rattle.policy_regions.specs.Overlay.{laid_by};
 
 use crate::carving::carve;
 use crate::joining::joined;
@@ -23,32 +21,28 @@ pub struct LastLaid {
 }
 
 impl Model for LastLaid {
-    ghost use Rattle.std.specs.Prelude.{◌≡◌, ◌∷◌, [], List};
-    ghost use Rattle.policy_regions.specs.Carved.{carve};
-    ghost use Rattle.policy_regions.specs.Joining.{joined};
-    ghost use Rattle.policy_regions.specs.Overlay.{overlay};
-    ghost use Rattle.policy_regions.specs.Regions.{everything};
+    ghost use Rattle.std.specs.Prelude.{◌≡◌, List};
+    ghost use Rattle.policy_regions.specs.Overlay.{laid_by};
     ghost use Rattle.policy_regions.specs.declared.overlays.Compared.{Compared as Both};
 
     ghost Value = { List Both };
 
     ghost view = { λ last. last.compared.items };
 
-    ghost invariant = { λ last. last.compared.items
-        ≡ overlay (joined (carve last.before.items (everything ∷ []))) (joined (carve last.after.items (everything ∷ []))) };
+    ghost invariant = { λ last. last.compared.items ≡ laid_by last.before.items last.after.items };
 }
 
 /// The regions that claims make.
 fn made(alloc: Global, claims: &[Claim]) -> Result<Vec<DecidedRegion>, NoMemory>
-    ensures { IfOk result (λ v. v.items ≡ joined (carve claims.now (everything ∷ []))) }
+    ensures { IfOk result (λ v. v.items ≡ made_by claims.now) }
 {
     let carved = carve(alloc, claims)?;
     joined(alloc, carved)
 }
 
+/// What the regions have in common that claims before and after make.
 fn laid(alloc: Global, before: &[Claim], after: &[Claim]) -> Result<Vec<Compared>, NoMemory>
-    ensures { IfOk result (λ v. v.items
-        ≡ overlay (joined (carve before.now (everything ∷ []))) (joined (carve after.now (everything ∷ [])))) }
+    ensures { IfOk result (λ v. v.items ≡ laid_by before.now after.now) }
 {
     let regions = made(alloc, before)?;
     let regions_after = made(alloc, after)?;
@@ -56,8 +50,7 @@ fn laid(alloc: Global, before: &[Claim], after: &[Claim]) -> Result<Vec<Compared
 }
 
 fn found(alloc: Global, before: Vec<Claim>, after: Vec<Claim>) -> Result<LastLaid, NoMemory>
-    ensures { IfOk result (λ last. last
-        ≡ overlay (joined (carve before.items (everything ∷ []))) (joined (carve after.items (everything ∷ [])))) }
+    ensures { IfOk result (λ last. last ≡ laid_by before.items after.items) }
 {
     let compared = laid(alloc, &before, &after)?;
     Ok(LastLaid {
@@ -69,7 +62,9 @@ fn found(alloc: Global, before: Vec<Claim>, after: Vec<Claim>) -> Result<LastLai
 
 impl LastLaid {
     /// The region of all tuples, on which no rule decides before or after.
-    pub fn new(alloc: Global) -> Result<LastLaid, NoMemory> {
+    pub fn new(alloc: Global) -> Result<LastLaid, NoMemory>
+        ensures { IfOk result (λ last. last ≡ laid_by [] []) }
+    {
         found(alloc, Vec::new(alloc), Vec::new(alloc))
     }
 
@@ -81,8 +76,7 @@ impl LastLaid {
         before: Vec<Claim>,
         after: Vec<Claim>,
     ) -> Result<(), NoMemory>
-        ensures compared { OnOk result (self.new
-            ≡ overlay (joined (carve before.items (everything ∷ []))) (joined (carve after.items (everything ∷ [])))) }
+        ensures compared { OnOk result (self.new ≡ laid_by before.items after.items) }
         ensures kept { OnErr result (self.new ≡ self.old) }
     {
         if !are_same(&self.before, &before) {

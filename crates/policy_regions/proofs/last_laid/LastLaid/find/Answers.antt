@@ -1,8 +1,5 @@
-use Rattle.std.proofs.Common.{◌≡◌, ◌∷◌, [], List, sym, ◌∙◌}
-use Rattle.policy_regions.specs.Carved.{carve}
-use Rattle.policy_regions.specs.Joining.{joined}
-use Rattle.policy_regions.specs.Overlay.{overlay}
-use Rattle.policy_regions.specs.Regions.{everything}
+use Rattle.std.proofs.Common.{◌≡◌, List, sym, ◌∙◌}
+use Rattle.policy_regions.specs.Overlay.{laid_by}
 use Rattle.policy_regions.specs.Sameness.{same_claims}
 use Rattle.policy_regions.specs.declared.region.Claim.{Claim}
 use Rattle.policy_regions.proofs.Same.{claims_are}
@@ -18,4 +15,4 @@ returns-else-not-are_same-2-clause-compared c =
     let two : second ≡ c.args.after.items =
     claims_are second c.args.after.items
     (sym (λ i. same_claims (c.deref-3.ensures.value i) (c.deref-4.ensures.value i)) ∙ sym c.are_same-2.ensures ∙ c.if-not-are_same-2.false) in
-    sym c.self.view_is ∙ c.self.invariant ∙ (λ i. overlay (joined (carve (one i) (everything ∷ []))) (joined (carve (two i) (everything ∷ []))))
+    sym c.self.view_is ∙ c.self.invariant ∙ (λ i. laid_by (one i) (two i))
