@@ -18,7 +18,7 @@ use Rattle.config_types.specs.declared.config.Protocol.TheVariants.{Any, Number}
 use Rattle.config_types.specs.declared.config.Rule.{Rule}
 use Rattle.config_types.specs.declared.config.Service.{Service}
 use Rattle.config_types.specs.declared.topology.Topology.{Topology}
-use Rattle.chain_expand.specs.Expansion.{expansion, hops_of, service_named, services_within}
+use Rattle.reach_plain.specs.ChainExpand.Expansion.{expansion, hops_of, service_named, services_within}
 use Rattle.config_check.specs.Rules.{first_broken}
 use Rattle.policy_rules.specs.Related.{fits, rules_between}
 use Rattle.policy_rules.specs.Matching.{speaks_both_ways}
