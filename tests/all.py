@@ -33,7 +33,7 @@ def calls(program, inspect):
                  "allocations"):
         yield f"{name}.py", [program]
     yield from ((f"inspect_{it}.py", [inspect]) for it in ("ways", "unused", "json"))
-    yield from ((f"inspect_{it}.py", [inspect, program]) for it in ("diff", "expect", "hitless"))
+    yield from ((f"inspect_{it}.py", [inspect, program]) for it in ("diff", "expect", "hitless", "why"))
     yield "windows.py", [inspect, program]
     yield "shorts.py", []
     yield "ways.py", []

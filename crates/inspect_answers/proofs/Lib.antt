@@ -12,6 +12,7 @@ mod TookReasons
 mod JudgedEdits
 mod Changed
 pub mod Formed
+pub mod Having
 pub mod OfEach
 pub mod RegionSizes
 pub mod RuleSizes

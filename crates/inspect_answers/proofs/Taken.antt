@@ -1,6 +1,7 @@
 -- What is taken of the answer of `expect` is as it promises.
 use Rattle.std.proofs.Common.{◌≡◌, ◌<◌, ◌^◌, ◌↔◌, ℕ, true, cond, List, [], ◌++◌, Option, Some, None, Result, Ok, Err}
 use Rattle.std.proofs.Common.{refl, sym, ap, ◌∙◌, subst, length, flat_map, arith}
+use Rattle.std.specs.Prelude.{IfOk}
 use Rattle.std.specs.List.{All, Any, Contains}
 use Rattle.std.specs.Io.KnownBytes.{Appends}
 use Rattle.serde_json.specs.Data.{Data}
@@ -97,3 +98,9 @@ took_expected form octets verdict old new given of_form answers =
       reads = line_reads good.read.input.topology c formed good.valid es;
       counts_read = λ few. let fewer_lines = fewer c 1 es in counts_reads (length es) (length (lines_from c 1 es)) few (omega (arith, fewer_lines, few));
     }
+
+pub expected_kept : {E : Type 0} (r : Result Verdict E) (form : Form) (octets : List ℕ) (old new : Option (List ℕ))
+    → IfOk r (λ verdict. WasGiven (expect_answer form octets) verdict old new) → IfOk r (λ verdict. IsAnswer verdict → AreExpectedInForm octets)
+    → IfOk r (λ verdict. IsAnswer verdict → TookExpected form (status_of verdict) octets old new)
+expected_kept (Ok verdict) form octets old new given of_form = took_expected form octets verdict old new given of_form
+expected_kept (Err e) form octets old new given of_form = tt

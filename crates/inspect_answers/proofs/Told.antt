@@ -1,5 +1,6 @@
 -- The text of the answer is that of lines, and these tell of each tuple what decides on it.
 use Rattle.std.proofs.Common.{◌≡◌, ◌≢◌, ◌&&◌, not, ℕ, Bool, true, false, cond, List, [], ◌∷◌, ◌++◌, Option, Some, None, Result, arith, Ok, Err, map, flat_map, refl, sym, ap, ◌∙◌, subst}
+use Rattle.std.specs.Prelude.{IfOk}
 use Rattle.std.specs.List.{Contains}
 use Rattle.std.specs.Io.KnownBytes.{Appends}
 use Rattle.std.proofs.lemmas.Grind.{flat_map-append}
@@ -222,3 +223,9 @@ took_ways form pairs octets verdict old new given of_form answers =
         reads = line_reads good.input.topology pairs good.input.config formed good.valid;
       },
     )
+
+pub ways_kept : {E : Type 0} (r : Result Verdict E) (form : Form) (pairs : Pairs) (octets : List ℕ) (old new : Option (List ℕ))
+    → IfOk r (λ verdict. WasGiven (ways_answer form pairs octets) verdict old new) → IfOk r (λ verdict. IsAnswer verdict → AreWrittenInForm octets)
+    → IfOk r (λ verdict. IsAnswer verdict → (status_of verdict ≡ Ended.Done) × TookWays form pairs octets old new)
+ways_kept (Ok verdict) form pairs octets old new given of_form = took_ways form pairs octets verdict old new given of_form
+ways_kept (Err e) form pairs octets old new given of_form = tt

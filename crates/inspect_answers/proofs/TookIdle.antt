@@ -1,5 +1,6 @@
 -- What is taken of the answer of `unused` is as it promises.
 use Rattle.std.proofs.Common.{◌≡◌, true, ℕ, List, [], Option, Some, None, Result, Ok, Err, refl, ap, ◌∙◌, subst}
+use Rattle.std.specs.Prelude.{IfOk}
 use Rattle.std.specs.Io.KnownBytes.{Appends}
 use Rattle.serde_json.specs.Data.{Data}
 use Rattle.ov_json.specs.Json.{json_of}
@@ -73,3 +74,9 @@ took_unused form octets verdict old new given of_form answers =
         reads = λ x at. idle_reads c x formed (idle_sized good.input.topology c formed good.valid x at);
       },
     )
+
+pub unused_kept : {E : Type 0} (r : Result Verdict E) (form : Form) (octets : List ℕ) (old new : Option (List ℕ))
+    → IfOk r (λ verdict. WasGiven (unused_answer form octets) verdict old new) → IfOk r (λ verdict. IsAnswer verdict → AreWrittenInForm octets)
+    → IfOk r (λ verdict. IsAnswer verdict → (status_of verdict ≡ Ended.Done) × TookUnused form octets old new)
+unused_kept (Ok verdict) form octets old new given of_form = took_unused form octets verdict old new given of_form
+unused_kept (Err e) form octets old new given of_form = tt

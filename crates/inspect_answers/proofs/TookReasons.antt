@@ -1,6 +1,6 @@
 -- What is taken of the answer of `why` is as it promises.
 use Rattle.std.proofs.Common.{◌≡◌, ◌<◌, ◌+◌, ◌^◌, inl, inr, true, ℕ, zero, suc, List, [], ◌∷◌, ◌++◌, Option, Some, None, Result, Ok, Err, refl, sym, ap, ◌∙◌, subst, arith, length, flat_map}
-use Rattle.std.specs.Prelude.{slice_get}
+use Rattle.std.specs.Prelude.{IfOk, slice_get}
 use Rattle.std.specs.List.{Contains, list_all}
 use Rattle.std.specs.Io.KnownBytes.{Appends}
 use Rattle.serde_json.specs.Data.{Data}
@@ -157,3 +157,9 @@ took_explained form octets verdict old new given of_form answers =
         reads = each_reads good.read.input.topology c formed good.valid ps;
       },
     )
+
+pub explained_kept : {E : Type 0} (r : Result Verdict E) (form : Form) (octets : List ℕ) (old new : Option (List ℕ))
+    → IfOk r (λ verdict. WasGiven (why_answer form octets) verdict old new) → IfOk r (λ verdict. IsAnswer verdict → AreAskedInForm octets)
+    → IfOk r (λ verdict. IsAnswer verdict → (status_of verdict ≡ Ended.Done) × TookExplained form octets old new)
+explained_kept (Ok verdict) form octets old new given of_form = took_explained form octets verdict old new given of_form
+explained_kept (Err e) form octets old new given of_form = tt

@@ -67,7 +67,7 @@ fn having(pairs: &Pairs, valid: Valid) -> Result<Valid, Unfit>
 }
 
 /// What is taken from a value.
-#[tactic(auto, using(crate::proofs::Unfitting::unfit_anyway, crate::proofs::Formed::reads_in_form), unfolding(crate::specs::Answers::ways_value))]
+#[tactic(auto, using(crate::proofs::Unfitting::unfit_anyway), unfolding(crate::specs::Answers::ways_value))]
 fn ways_taken(alloc: Global, pairs: &Pairs, value: &Value) -> Result<Valid, Unfit>
     ensures fit { (form : LineForm) → IfOk result (λ valid. ways_value form pairs.now (view value.now)
         ≡ judged (answer_good (ways_in form pairs.now valid.config))) }
@@ -85,7 +85,7 @@ fn ways_taken(alloc: Global, pairs: &Pairs, value: &Value) -> Result<Valid, Unfi
 }
 
 /// What is taken from an input.
-#[tactic(auto, using(crate::proofs::Formed::are_in_form), unfolding(crate::specs::Answers::ways_answer))]
+#[tactic(auto, using(crate::proofs::Formed::are_where_ok), unfolding(crate::specs::Answers::ways_answer))]
 fn ways_asked(alloc: Global, pairs: &Pairs, octets: &[u8]) -> Result<Valid, Unfit>
     ensures fit { (form : LineForm) → IfOk result (λ valid. ways_answer form pairs.now octets.now
         ≡ judged (answer_good (ways_in form pairs.now valid.config))) }
@@ -100,6 +100,7 @@ fn ways_asked(alloc: Global, pairs: &Pairs, octets: &[u8]) -> Result<Valid, Unfi
 }
 
 /// Writes the ways that are asked for of an input.
+#[tactic(auto, using(crate::proofs::Formed::where_answered, crate::proofs::Formed::never_answered))]
 fn answer_ways<K: Sink>(
     alloc: Global,
     form: Form,
@@ -124,7 +125,6 @@ fn answer_ways<K: Sink>(
 }
 
 /// Writes what is answered to an input.
-#[tactic(auto, using(crate::proofs::Told::took_ways, crate::proofs::Taken::took_expected, crate::proofs::TookIdle::took_unused, crate::proofs::TookReasons::took_explained))]
 pub(crate) fn answer<K: Sink>(
     alloc: Global,
     asked: &Asked,

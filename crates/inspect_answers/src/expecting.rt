@@ -158,7 +158,7 @@ struct Question {
 }
 
 /// What `expect` takes from a value.
-#[tactic(auto, using(crate::proofs::Unfitting::unfit_anyway, crate::proofs::Formed::reads_in_form), unfolding(crate::specs::Answers::expect_value))]
+#[tactic(auto, using(crate::proofs::Unfitting::unfit_anyway), unfolding(crate::specs::Answers::expect_value))]
 fn expect_taken(alloc: Global, value: &Value) -> Result<Question, Unfit>
     ensures fit { (form : LineForm) → IfOk result (λ asked. expect_value form (view value.now)
         ≡ expected_answer form asked.valid.config asked.packets) }
@@ -176,7 +176,7 @@ fn expect_taken(alloc: Global, value: &Value) -> Result<Question, Unfit>
 }
 
 /// What `expect` takes from an input.
-#[tactic(auto, using(crate::proofs::Formed::are_in_form), unfolding(crate::specs::Answers::expect_answer))]
+#[tactic(auto, using(crate::proofs::Formed::are_where_ok), unfolding(crate::specs::Answers::expect_answer))]
 fn expect_asked(alloc: Global, octets: &[u8]) -> Result<Question, Unfit>
     ensures fit { (form : LineForm)
         → IfOk result (λ asked. expect_answer form octets.now ≡ expected_answer form asked.valid.config asked.packets) }
@@ -191,6 +191,7 @@ fn expect_asked(alloc: Global, octets: &[u8]) -> Result<Question, Unfit>
 }
 
 /// Writes what `expect` answers to an input.
+#[tactic(auto, using(crate::proofs::Formed::where_answered, crate::proofs::Formed::never_answered))]
 pub(crate) fn answer_expect<K: Sink>(
     alloc: Global,
     form: Form,

@@ -159,7 +159,7 @@ struct Question {
 }
 
 /// What `why` takes from a value.
-#[tactic(auto, using(crate::proofs::Unfitting::unfit_anyway, crate::proofs::Formed::reads_in_form), unfolding(crate::specs::Answers::why_value))]
+#[tactic(auto, using(crate::proofs::Unfitting::unfit_anyway), unfolding(crate::specs::Answers::why_value))]
 fn why_taken(alloc: Global, value: &Value) -> Result<Question, Unfit>
     ensures fit { (form : LineForm) → IfOk result (λ asked. why_value form (view value.now)
         ≡ judged (answer_good (why_in form asked.valid.config asked.packets))) }
@@ -177,7 +177,7 @@ fn why_taken(alloc: Global, value: &Value) -> Result<Question, Unfit>
 }
 
 /// What `why` takes from an input.
-#[tactic(auto, using(crate::proofs::Formed::are_in_form), unfolding(crate::specs::Answers::why_answer))]
+#[tactic(auto, using(crate::proofs::Formed::are_where_ok), unfolding(crate::specs::Answers::why_answer))]
 fn why_asked(alloc: Global, octets: &[u8]) -> Result<Question, Unfit>
     ensures fit { (form : LineForm) → IfOk result (λ asked. why_answer form octets.now
         ≡ judged (answer_good (why_in form asked.valid.config asked.packets))) }
@@ -192,6 +192,7 @@ fn why_asked(alloc: Global, octets: &[u8]) -> Result<Question, Unfit>
 }
 
 /// Writes what `why` answers to an input.
+#[tactic(auto, using(crate::proofs::Formed::where_answered, crate::proofs::Formed::never_answered))]
 pub(crate) fn answer_why<K: Sink>(
     alloc: Global,
     form: Form,

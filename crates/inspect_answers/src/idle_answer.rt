@@ -26,7 +26,7 @@ use serde_json::Value;
 use std::alloc::Global;
 
 /// What `unused` takes from a value.
-#[tactic(auto, using(crate::proofs::Unfitting::unfit_anyway, crate::proofs::Formed::reads_in_form), unfolding(crate::specs::Answers::unused_value))]
+#[tactic(auto, using(crate::proofs::Unfitting::unfit_anyway), unfolding(crate::specs::Answers::unused_value))]
 fn unused_taken(alloc: Global, value: &Value) -> Result<Valid, Unfit>
     ensures fit { (form : LineForm)
         → IfOk result (λ valid. unused_value form (view value.now) ≡ judged (answer_good (idle_in form valid.config))) }
@@ -41,7 +41,7 @@ fn unused_taken(alloc: Global, value: &Value) -> Result<Valid, Unfit>
 }
 
 /// What `unused` takes from an input.
-#[tactic(auto, using(crate::proofs::Formed::are_in_form), unfolding(crate::specs::Answers::unused_answer))]
+#[tactic(auto, using(crate::proofs::Formed::are_where_ok), unfolding(crate::specs::Answers::unused_answer))]
 fn unused_asked(alloc: Global, octets: &[u8]) -> Result<Valid, Unfit>
     ensures fit { (form : LineForm)
         → IfOk result (λ valid. unused_answer form octets.now ≡ judged (answer_good (idle_in form valid.config))) }
@@ -94,6 +94,7 @@ fn write_idle<K: Sink>(
 }
 
 /// Writes what `unused` answers to an input.
+#[tactic(auto, using(crate::proofs::Formed::where_answered, crate::proofs::Formed::never_answered))]
 pub(crate) fn answer_unused<K: Sink>(
     alloc: Global,
     form: Form,
