@@ -1,5 +1,5 @@
 -- What is answered where the configuration was found valid, by what is answered to that.
-use Rattle.std.proofs.Common.{◌≡◌, ℕ, List, [], Option, None, Result, Ok, Err, sym, ap, ◌∙◌, subst}
+use Rattle.std.proofs.Common.{◌≡◌, [], Option, None, Result, Ok, Err, sym, ap, ◌∙◌, subst}
 use Rattle.std.specs.Prelude.{IfErr, IfOk}
 use Rattle.serde_json.specs.Data.{Data}
 use Rattle.config_model.specs.Input.{compile_at}

@@ -1,5 +1,5 @@
 -- The names of lines have the form of names, and their numbers the sizes of their types.
-use Rattle.std.proofs.Common.{◌≡◌, ℕ, zero, suc, ◌+◌, ◌≤◌, ◌<◌, ◌^◌, ◌%◌, ◌==◌, ◌&&◌, leb, ltb, not, Bool, true, false, cond, List, [], ◌∷◌, ◌++◌, Option, Some, None, length, map, flat_map, filter, refl, arith}
+use Rattle.std.proofs.Common.{◌≡◌, ℕ, ◌+◌, ◌≤◌, ◌^◌, ◌%◌, ◌==◌, ◌&&◌, leb, ltb, not, true, List, [], ◌∷◌, ◌++◌, Option, Some, None, length, map, flat_map, refl, arith}
 use Rattle.std.specs.Prelude.{codes, nat_eq}
 use Rattle.std.specs.Cmp.Lexicographic.{pointwise}
 use Rattle.std.specs.List.{Contains, list_all, list_any}
@@ -8,7 +8,6 @@ use Rattle.ov_types.specs.First.{same_name}
 use Rattle.ov_types.specs.Name.{is_name}
 use Rattle.ov_types.specs.Prefix.{Block, is_block, is_prefix, size_of}
 use Rattle.ov_types.specs.declared.packet.RuleNo.{RuleNo}
-use Rattle.ov_types.proofs.FirstLemmas.{found_is}
 use Rattle.config_types.specs.Form.{has_chain_form, has_config_form, has_network_form, has_policy_form, has_port_form, has_rule_form, has_service_form, is_from_to, is_network_name}
 use Rattle.config_types.specs.declared.config.Chain.{Chain}
 use Rattle.config_types.specs.declared.config.Config.{Config}
@@ -40,7 +39,7 @@ use Rattle.inspect_changes.specs.declared.way.Passage.{Passage}
 use Rattle.inspect_changes.specs.declared.way.Passage.TheVariants as Goes
 use Rattle.inspect_changes.specs.declared.way.Way.{Way}
 use Rattle.inspect_rules.specs.Deciders.{decides_some}
-use Rattle.inspect_rules.specs.Idle.{attached_count, before_of, has_use, idle, idle_chain, idle_policy, idle_rule, rule_unless, stands_before}
+use Rattle.inspect_rules.specs.Idle.{attached_count, before_of, has_use, idle, idle_chain, idle_policy, idle_rule, stands_before}
 use Rattle.inspect_rules.specs.declared.idle.Idle.{Idle}
 use Rattle.inspect_rules.specs.declared.idle.Idle.TheVariants as Is
 use Rattle.inspect_json.specs.Sizes.{has_difference_size, has_fate_size, has_idle_size, has_object_size, has_region_size, has_rule_size, has_service_size, has_way_size}

@@ -1,7 +1,7 @@
 -- What is told of packets has names of the form of names, and numbers of the sizes of their types.
-use Rattle.std.proofs.Common.{◌≡◌, ◌⊎◌, inl, inr, ℕ, ◌==◌, ◌≤◌, ◌&&◌, ◌||◌, leb, Bool, true, false, cond, List, [], ◌∷◌, ◌++◌, Option, Some, None, map, flat_map, refl, sym, ap, subst, arith}
-use Rattle.std.specs.Prelude.{⊤, find, option_map, slice_get}
-use Rattle.std.specs.List.{Contains, list_all}
+use Rattle.std.proofs.Common.{◌≡◌, inl, inr, ℕ, ◌==◌, ◌&&◌, ◌||◌, leb, Bool, true, false, List, [], ◌∷◌, Option, Some, None, flat_map, refl, sym, subst, arith}
+use Rattle.std.specs.Prelude.{find, option_map}
+use Rattle.std.specs.List.{list_all}
 use Rattle.std.proofs.lemmas.Bool.{and_from, and_parts, le-leb, leb-true}
 use Rattle.ov_types.specs.First.{same_name}
 use Rattle.ov_types.specs.Name.{is_name}
@@ -30,14 +30,14 @@ use Rattle.policy_rules.specs.Taking.{IsDeciding}
 use Rattle.policy_rules.specs.declared.matching.Match.{Match}
 use Rattle.policy_rules.specs.declared.numbered.NumberedRule.{NumberedRule}
 use Rattle.policy_rules.proofs.Taking.{deciding_iff}
-use Rattle.reach_plain.specs.Outcomes.{Becomes, IsDelivered, IsDeniedBy, IsLetThrough, LeadsThrough, MayEnter}
+use Rattle.reach_plain.specs.Outcomes.{Becomes, IsLetThrough, LeadsThrough, MayEnter}
 use Rattle.reach_plain.specs.Reachability.{network_towards, reachability}
 use Rattle.reach_plain.proofs.Becoming.{outcome_iff}
 use Rattle.inspect_reasons.specs.Causes.{asked, attached, between, causes, decided, failing, fails_forwards, fails_mirrored, holder, leading, leading_by, leaving, nowhere, policy_of, skipped, starting, towards}
 use Rattle.inspect_reasons.specs.declared.cause.Cause.{Cause}
 use Rattle.inspect_reasons.specs.declared.cause.Cause.TheVariants as Of
-use Rattle.inspect_json.specs.Sizes.{has_cause_size, has_delivery_size, has_outcome_size, has_policy_size, has_rule_size, has_service_size}
-use Rattle.inspect_answers.proofs.OfEach.{Each, OfSome, each_append, each_cond, each_flat, each_map, each_of, each_passes, of_mapped, passes_each, passes_of}
+use Rattle.inspect_json.specs.Sizes.{has_cause_size, has_outcome_size, has_policy_size, has_rule_size, has_service_size}
+use Rattle.inspect_answers.proofs.OfEach.{Each, OfSome, each_append, each_cond, each_flat, each_map, each_of, each_passes, passes_each, passes_of}
 use Rattle.inspect_answers.proofs.LineSizes.{HasNetworkParts, network_form, policy_named}
 use Rattle.inspect_answers.proofs.RuleSizes.{IsSizedRule, forms_of, policy_form, rule_between, services_sized}
 

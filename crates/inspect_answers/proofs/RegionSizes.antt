@@ -1,8 +1,8 @@
 -- The ranges of regions are of numbers of 16 bits.
 use Rattle.std.proofs.Common.{◌≡◌, ℕ, zero, suc, ◌+◌, ◌-◌, ◌≤◌, ◌&&◌, leb, ltb, min, max, Bool, true, false, cond, List, [], ◌∷◌, ◌++◌, Option, Some, None, length, map, flat_map, refl, arith}
-use Rattle.std.specs.Prelude.{⊤, option_map}
+use Rattle.std.specs.Prelude.{⊤}
 use Rattle.std.specs.Option.{option_map_or}
-use Rattle.std.proofs.lemmas.Bool.{and_from, and_parts, le-leb, leb-true, ltb-true}
+use Rattle.std.proofs.lemmas.Bool.{and_from, le-leb, leb-true, ltb-true}
 use Rattle.ov_types.specs.First.{◌<|>◌}
 use Rattle.ov_types.specs.declared.packet.Range16.{Range16}
 use Rattle.config_types.specs.declared.config.Config.{Config}

@@ -1,6 +1,6 @@
 -- The numbers of rules and of services are of 16 bits.
-use Rattle.std.proofs.Common.{◌≡◌, inl, inr, ℕ, zero, suc, ◌+◌, ◌≤◌, ◌<◌, ◌&&◌, leb, Bool, true, false, cond, List, [], ◌∷◌, ◌++◌, Option, Some, None, length, map, flat_map, reverse, refl, sym, ap, ◌∙◌, subst, arith}
-use Rattle.std.specs.Prelude.{find, slice_get}
+use Rattle.std.proofs.Common.{◌≡◌, ℕ, zero, suc, ◌+◌, ◌≤◌, ◌<◌, ◌&&◌, leb, Bool, true, false, List, [], ◌∷◌, Option, Some, None, length, map, flat_map, reverse, refl, arith}
+use Rattle.std.specs.Prelude.{slice_get}
 use Rattle.std.specs.List.{Contains, list_all}
 use Rattle.std.specs.Option.{option_map_or}
 use Rattle.std.proofs.lemmas.Bool.{and_from, and_parts, le-leb, leb-true}
@@ -24,10 +24,8 @@ use Rattle.policy_rules.specs.Related.{fits, rules_between}
 use Rattle.policy_rules.specs.Matching.{speaks_both_ways}
 use Rattle.policy_rules.specs.Standing.{IsBetween}
 use Rattle.policy_rules.specs.declared.numbered.NumberedRule.{NumberedRule}
-use Rattle.policy_rules.proofs.Lists.{joined_is}
 use Rattle.policy_rules.proofs.Standing.{between_iff}
 use Rattle.policy_regions.specs.Claims.{backwards, claims_between, claims_of, forward_claim, forwards, mirrored_claim, protocols_of}
-use Rattle.policy_regions.specs.declared.region.Claim.{Claim}
 use Rattle.reach_plain.specs.Reachability.{services_through}
 use Rattle.reach_plain.proofs.Kept.{few_rules}
 use Rattle.inspect_json.specs.Sizes.{has_rule_size, has_service_size}

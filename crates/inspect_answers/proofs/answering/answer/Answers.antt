@@ -1,4 +1,4 @@
-use Rattle.std.proofs.Common.{◌≡◌, sym, subst}
+use Rattle.std.proofs.Common.{sym, subst}
 use Rattle.std.specs.Prelude.{IfOk}
 use Rattle.inspect_answers.specs.Answers.{IsAnswer}
 use Rattle.inspect_answers.specs.Runs.{Keeps, status_of}
