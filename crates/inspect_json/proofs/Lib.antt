@@ -1,3 +1,5 @@
+pub mod Fits
+mod OneLine
 pub mod Fit
 pub mod NoFloats
 mod Named
