@@ -1,109 +1,61 @@
 -- What is taken of the answer of `why` is as it promises.
-use Rattle.std.proofs.Common.{◌≡◌, ◌+◌, ℕ, zero, suc, List, [], ◌∷◌, ◌++◌, Option, Some, None, Result, Ok, Err, refl, sym, ap, ◌∙◌, subst, arith, length, flat_map}
+use Rattle.std.proofs.Common.{◌≡◌, ◌+◌, ℕ, zero, suc, IsTrue, List, [], ◌∷◌, ◌++◌, Option, Some, None, refl, ap, subst, arith, length, flat_map}
 use Rattle.std.specs.Prelude.{slice_get}
 use Rattle.std.specs.Io.KnownBytes.{Appends}
-use Rattle.serde_json.specs.Data.{Data}
-use Rattle.ov_json.specs.Json.{json_of}
 use Rattle.ov_types.specs.declared.packet.Packet.{Packet}
-use Rattle.config_types.specs.declared.config.Config.{Config}
-use Rattle.config_types.specs.declared.topology.Topology.{Topology}
-use Rattle.config_model.specs.Faults.{Fault}
-use Rattle.config_model.specs.Input.{reach_at}
-use Rattle.config_model.specs.declared.input.ReachInput.{ReachInput}
+use Rattle.config_types.specs.Form.{has_config_form}
+use Rattle.config_check.specs.Checked.{Checked}
 use Rattle.config_check.specs.Rules.{first_broken}
-use Rattle.config_check.specs.declared.refusal.Refusal.{Refusal}
-use Rattle.compile_answers.specs.Answers.{answer_good}
 use Rattle.reach_plain.specs.Reachability.{reachability}
 use Rattle.inspect_reasons.specs.Causes.{causes}
 use Rattle.inspect_reasons.proofs.Explained.{explains}
-use Rattle.inspect_answers.specs.Answers.{Answer, IsAnswer, WasGiven, answer_unless, judged, of_json, why_answer, why_reading, why_value}
-use Rattle.inspect_answers.specs.Explained.{Explained, IsAskedIn, IsExplained, TookExplained, packet_text, packets_from, text_of, why_text}
-use Rattle.inspect_answers.specs.Runs.{status_of}
-use Rattle.inspect_answers.specs.declared.top.Status.TheVariants as Ended
-use Rattle.inspect_answers.specs.declared.verdict.Verdict.{Verdict}
-use Rattle.inspect_answers.specs.declared.verdict.Verdict.TheVariants.{Good}
+use Rattle.inspect_walks.specs.Told.{told_walk}
+use Rattle.inspect_walks.proofs.Law.{tells_walk}
+use Rattle.inspect_answers.specs.Explained.{Explained, IsAskedOf, IsExplained, TookExplained, packet_text, packets_from, text_of, why_text}
 
 -- what is told of packets
 
-abbrev explained : Config → ℕ → Packet → Explained
-explained c n p = record { number = n; outcome = reachability c p; causes = causes c p }
+abbrev explained : Checked → ℕ → Packet → Explained
+explained v n p = record { number = n; outcome = reachability v.config p; causes = causes v.config p; walk = told_walk v p }
 
-abbrev explained_from : Config → ℕ → List Packet → List Explained
-explained_from c n [] = []
-explained_from c n (p ∷ ps) = explained c n p ∷ explained_from c (n + 1) ps
+abbrev explained_from : Checked → ℕ → List Packet → List Explained
+explained_from v n [] = []
+explained_from v n (p ∷ ps) = explained v n p ∷ explained_from v (n + 1) ps
 
-text_of_each : (c : Config) (n : ℕ) (ps : List Packet) → packets_from c n ps ≡ flat_map text_of (explained_from c n ps)
-text_of_each c n [] = refl
-text_of_each c n (p ∷ ps) = ap (λ (t : List ℕ). packet_text c n p ++ t) (text_of_each c (n + 1) ps)
+text_of_each : (v : Checked) (n : ℕ) (ps : List Packet) → packets_from v n ps ≡ flat_map text_of (explained_from v n ps)
+text_of_each v n [] = refl
+text_of_each v n (p ∷ ps) = ap (λ (t : List ℕ). packet_text v n p ++ t) (text_of_each v (n + 1) ps)
 
-as_many : (c : Config) (n : ℕ) (ps : List Packet) → length (explained_from c n ps) ≡ length ps
-as_many c n [] = refl
-as_many c n (p ∷ ps) = ap suc (as_many c (n + 1) ps)
+as_many : (v : Checked) (n : ℕ) (ps : List Packet) → length (explained_from v n ps) ≡ length ps
+as_many v n [] = refl
+as_many v n (p ∷ ps) = ap suc (as_many v (n + 1) ps)
 
 some_is : {A : Type 0} (x y : A) → Some x ≡ Some y → x ≡ y
 some_is x y h = cc
 
-explained_at : (t : Topology) (c : Config) → first_broken t c ≡ None → (n : ℕ) (ps : List Packet) (place : ℕ) (p : Packet) (x : Explained)
-    → slice_get ps place ≡ Some p → slice_get (explained_from c n ps) place ≡ Some x → (m : ℕ) → m + 1 ≡ place + n → IsExplained c m p x
-explained_at t c kept n [] place p x at told m e = absurd cc
-explained_at t c kept n (q ∷ ps) zero p x at told m e =
-    let packet : q ≡ p = some_is q p at in
-    let is : explained c n q ≡ x = some_is (explained c n q) x told in
-    let number : n ≡ m + 1 = omega (arith, e) in
-    let of_q : IsExplained c m q (explained c n q) = record { number = number; outcome = refl; explain = explains t c q kept } in
-    subst (λ (r : Packet). IsExplained c m r x) packet (subst (IsExplained c m q) is of_q)
-explained_at t c kept n (q ∷ ps) (suc place) p x at told m e =
-    explained_at t c kept (n + 1) ps place p x at told m (omega (arith, e))
+module _ (v : Checked) (form : IsTrue (has_config_form v.config)) (kept : first_broken v.topology v.config ≡ None) where
+  explained_at : (n : ℕ) (ps : List Packet) (place : ℕ) (p : Packet) (x : Explained)
+      → slice_get ps place ≡ Some p → slice_get (explained_from v n ps) place ≡ Some x → (m : ℕ) → m + 1 ≡ place + n → IsExplained v m p x
+  explained_at n [] place p x at told m e = absurd cc
+  explained_at n (q ∷ ps) zero p x at told m e =
+      let packet : q ≡ p = some_is q p at in
+      let is : explained v n q ≡ x = some_is (explained v n q) x told in
+      let number : n ≡ m + 1 = omega (arith, e) in
+      let of_q : IsExplained v m q (explained v n q) =
+      record { number = number; outcome = refl; explain = explains v.topology v.config q kept; walk = tells_walk v q form kept } in
+      subst (λ (r : Packet). IsExplained v m r x) packet (subst (IsExplained v m q) is of_q)
+  explained_at n (q ∷ ps) (suc place) p x at told m e =
+      explained_at (n + 1) ps place p x at told m (omega (arith, e))
 
--- the input
-
--- a valid configuration and packets were read, and what is told of these is the answer
-record IsRead (octets : List ℕ) : Type 0 where
-  pub read : ReachInput
-  pub written : IsAskedIn octets read
-  pub valid : first_broken read.input.topology read.input.config ≡ None
-  pub is : why_answer octets ≡ judged (answer_good (why_text read.input.config read.packets))
-
-by_answer : (broken : Option Refusal) (answer : Answer) → IsAnswer (answer_unless broken answer).verdict
-    → (broken ≡ None) × (answer_unless broken answer ≡ answer)
-by_answer (Some r) answer h = absurd h
-by_answer None answer h = (refl, refl)
-
-by_reading : (octets : List ℕ) (d : Data) → json_of octets ≡ Some d → (r : Result ReachInput Fault) → reach_at [] d ≡ r
-    → why_answer octets ≡ why_reading r → IsAnswer (why_reading r).verdict → IsRead octets
-by_reading octets d e (Err f) read is h = absurd h
-by_reading octets d e (Ok r) read is h =
-    let parts = by_answer (first_broken r.input.topology r.input.config) (judged (answer_good (why_text r.input.config r.packets))) h in
-    record { read = r; written = (d, e, read); valid = parts.0; is = is ∙ parts.1 }
-
-by_json : (octets : List ℕ) (o : Option Data) → json_of octets ≡ o → why_answer octets ≡ of_json why_value o
-    → IsAnswer (of_json why_value o).verdict → IsRead octets
-unfolding why_value
-by_json octets None e is h = absurd h
-by_json octets (Some d) e is h = by_reading octets d e (reach_at [] d) refl is h
-
-is_read : (octets : List ℕ) → IsAnswer (why_answer octets).verdict → IsRead octets
-unfolding why_answer
-is_read octets h = by_json octets (json_of octets) refl refl h
-
-pub took_explained : (octets : List ℕ) (verdict : Verdict) (old new : Option (List ℕ)) → WasGiven (why_answer octets) verdict old new
-    → IsAnswer verdict → (status_of verdict ≡ Ended.Done) × TookExplained octets old new
+pub took_explained : (octets : List ℕ) (v : Checked) (ps : List Packet) (old new : Option (List ℕ)) → IsAskedOf octets v ps
+    → Appends old new (why_text v ps) → TookExplained octets old new
 unfolding why_text
-took_explained octets verdict old new given answers =
-    let good = is_read octets (subst IsAnswer given.is answers) in
-    let c = good.read.input.config in
-    let ps = good.read.packets in
-    let text : (why_answer octets).text ≡ flat_map text_of (explained_from c 1 ps) =
-    ap (λ (a : Answer). a.text) good.is ∙ text_of_each c 1 ps in
-    let verdict_is : verdict ≡ Good = given.is ∙ ap (λ (a : Answer). a.verdict) good.is in (
-      ap status_of verdict_is,
-      record {
-        read = good.read;
-        written = good.written;
-        valid = good.valid;
-        explained = explained_from c 1 ps;
-        taken = subst (λ (t : List ℕ). Appends old new t) text given.taken;
-        many = as_many c 1 ps;
-        each = λ place p x at told. explained_at good.read.input.topology c good.valid 1 ps place p x at told place refl;
-      },
-    )
+took_explained octets v ps old new asked taken = record {
+  read = record { input = record { topology = v.topology; config = v.config }; packets = ps };
+  written = asked.written;
+  valid = asked.valid;
+  explained = explained_from v 1 ps;
+  taken = subst (λ (t : List ℕ). Appends old new t) (text_of_each v 1 ps) taken;
+  many = as_many v 1 ps;
+  each = λ place p x at told. explained_at v asked.form asked.valid 1 ps place p x at told place refl;
+}

@@ -20,7 +20,7 @@ use Rattle.compile_answers.specs.declared.unfit.Unfit.TheVariants as unfit
 use Rattle.hitless_answers.specs.Answers.{hitless_answer}
 use Rattle.inspect_answers.specs.Expectations.{ExpectInput, Expectation, expect_at}
 use Rattle.inspect_answers.specs.Expecting.{all_met, expect_text}
-use Rattle.inspect_answers.specs.Explained.{why_text}
+use Rattle.inspect_answers.specs.Explained.{checked_of, why_text}
 use Rattle.inspect_answers.specs.IdleLines.{idle_text}
 use Rattle.inspect_changes.specs.Lines.{ways_text}
 use Rattle.inspect_answers.specs.declared.asked.Asked.{Asked}
@@ -137,11 +137,11 @@ unused_value d = unused_reading (compile_at [] d)
 unfoldable pub unused_answer : List ℕ → Answer
 unused_answer octets = of_json unused_value (json_of octets)
 
--- what becomes of packets, and what that comes of, of what was read for `why`, or not
+-- what becomes of packets, what that comes of, and their walks, of what was read for `why`, or not
 abbrev pub why_reading : Result ReachInput Fault → Answer
 why_reading (Err f) = judged (answer_bad f)
 why_reading (Ok r) =
-    answer_unless (first_broken r.input.topology r.input.config) (judged (answer_good (why_text r.input.config r.packets)))
+    answer_unless (first_broken r.input.topology r.input.config) (judged (answer_good (why_text (checked_of r) r.packets)))
 
 -- of a value
 unfoldable pub why_value : Data → Answer

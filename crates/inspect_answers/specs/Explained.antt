@@ -1,13 +1,14 @@
--- What is answered to `why`: the outcome of each packet, and what it comes of.
-use Rattle.std.specs.Prelude.{◌≡◌, ℕ, ◌+◌, List, [], ◌∷◌, ◌++◌, flat_map, length, slice_get, Option, Some, None, Ok}
+-- What is answered to `why`: the outcome of each packet, what it comes of, and its walk over compiled tables.
+use Rattle.std.specs.Prelude.{◌≡◌, ℕ, IsTrue, ◌+◌, List, [], ◌∷◌, ◌++◌, flat_map, length, slice_get, Option, Some, None, Ok}
 use Rattle.std.specs.Io.KnownBytes.{Appends}
 use Rattle.serde_json.specs.Data.{Data}
 use Rattle.ov_json.specs.Json.{json_of}
 use Rattle.ov_types.specs.declared.packet.Outcome.{Outcome}
 use Rattle.ov_types.specs.declared.packet.Packet.{Packet}
-use Rattle.config_types.specs.declared.config.Config.{Config}
+use Rattle.config_types.specs.Form.{has_config_form}
 use Rattle.config_model.specs.Input.{reach_at}
 use Rattle.config_model.specs.declared.input.ReachInput.{ReachInput}
+use Rattle.config_check.specs.Checked.{Checked}
 use Rattle.config_check.specs.Rules.{first_broken}
 use Rattle.reach_plain.specs.Reachability.{reachability}
 use Rattle.inspect_changes.specs.Report.Outcomes.{outcome_line}
@@ -15,41 +16,63 @@ use Rattle.inspect_reasons.specs.CauseLines.{cause_line}
 use Rattle.inspect_reasons.specs.Causes.{causes}
 use Rattle.inspect_reasons.specs.Explaining.{Explain}
 use Rattle.inspect_reasons.specs.declared.cause.Cause.{Cause}
+use Rattle.inspect_walks.specs.Lines.{step_line}
+use Rattle.inspect_walks.specs.Told.{TellsWalk, told_walk}
+use Rattle.inspect_walks.specs.declared.told_step.ToldStep.{ToldStep}
 
--- an outcome, and what it comes of, a line each, behind the number of the packet
-abbrev pub explained_text : ℕ → Outcome → List Cause → List ℕ
-explained_text n outcome causes = outcome_line n outcome ++ flat_map (cause_line n) causes
+-- an outcome, what it comes of, and the walk, a line each, behind the number of the packet
+abbrev pub explained_text : ℕ → Outcome → List Cause → List ToldStep → List ℕ
+explained_text n outcome causes walk = outcome_line n outcome ++ (flat_map (cause_line n) causes ++ flat_map (step_line n) walk)
 
-abbrev pub packet_text : Config → ℕ → Packet → List ℕ
-packet_text c n p = explained_text n (reachability c p) (causes c p)
+abbrev pub packet_text : Checked → ℕ → Packet → List ℕ
+packet_text v n p = explained_text n (reachability v.config p) (causes v.config p) (told_walk v p)
 
 -- the lines of packets, the first with a number
-abbrev pub packets_from : Config → ℕ → List Packet → List ℕ
-packets_from c n [] = []
-packets_from c n (p ∷ ps) = packet_text c n p ++ packets_from c (n + 1) ps
+abbrev pub packets_from : Checked → ℕ → List Packet → List ℕ
+packets_from v n [] = []
+packets_from v n (p ∷ ps) = packet_text v n p ++ packets_from v (n + 1) ps
 
 -- what `inspect why` writes of a valid configuration and of packets, which count from 1
-unfoldable pub why_text : Config → List Packet → List ℕ
-why_text c packets = packets_from c 1 packets
+unfoldable pub why_text : Checked → List Packet → List ℕ
+why_text v packets = packets_from v 1 packets
 
--- what is told of a packet: its number, its outcome and what that comes of
+-- what is told of a packet: its number, its outcome, what that comes of, and its walk
 pub record Explained : Type 0 where
   pub number : ℕ
   pub outcome : Outcome
   pub causes : List Cause
+  pub walk : List ToldStep
 
 abbrev pub text_of : Explained → List ℕ
-text_of x = explained_text x.number x.outcome x.causes
+text_of x = explained_text x.number x.outcome x.causes x.walk
 
--- a packet is explained: its number counts from 1, its outcome is what becomes of it, and the causes explain that
-pub record IsExplained (c : Config) (place : ℕ) (p : Packet) (x : Explained) : Type 0 where
+-- a packet is explained: its number counts from 1, its outcome is what becomes of it, the causes explain that, and its walk
+-- over the tables that the configuration is compiled to is told, which ends as the outcome says
+pub record IsExplained (v : Checked) (place : ℕ) (p : Packet) (x : Explained) : Type 0 where
   pub number : x.number ≡ place + 1
-  pub outcome : x.outcome ≡ reachability c p
-  pub explain : Explain c p x.causes
+  pub outcome : x.outcome ≡ reachability v.config p
+  pub explain : Explain v.config p x.causes
+  pub walk : TellsWalk v p x.outcome x.walk
 
 -- the input is a document of this topology, this configuration and these packets
 abbrev pub IsAskedIn : List ℕ → ReachInput → Type 0
 IsAskedIn octets r = (d : Data) × (json_of octets ≡ Some d) × (reach_at [] d ≡ Ok r)
+
+-- the topology and the configuration that were read
+abbrev pub checked_of : ReachInput → Checked
+checked_of r = record { topology = r.input.topology; config = r.input.config }
+
+-- a value is of this topology, this configuration, which has the written form and is valid, and these packets
+pub record IsAskedAs (d : Data) (v : Checked) (packets : List Packet) : Type 0 where
+  pub written : reach_at [] d ≡ Ok (record { input = record { topology = v.topology; config = v.config }; packets = packets })
+  pub form : IsTrue (has_config_form v.config)
+  pub valid : first_broken v.topology v.config ≡ None
+
+-- the input is a document of these
+pub record IsAskedOf (octets : List ℕ) (v : Checked) (packets : List Packet) : Type 0 where
+  pub written : IsAskedIn octets (record { input = record { topology = v.topology; config = v.config }; packets = packets })
+  pub form : IsTrue (has_config_form v.config)
+  pub valid : first_broken v.topology v.config ≡ None
 
 -- the input has a valid configuration and packets, and what is told of each packet was taken, in their order
 pub record TookExplained (octets : List ℕ) (old new : Option (List ℕ)) : Type 0 where
@@ -60,4 +83,4 @@ pub record TookExplained (octets : List ℕ) (old new : Option (List ℕ)) : Typ
   pub taken : Appends old new (flat_map text_of explained)
   pub many : length explained ≡ length read.packets
   pub each : (place : ℕ) (p : Packet) (x : Explained) → slice_get read.packets place ≡ Some p → slice_get explained place ≡ Some x
-      → IsExplained read.input.config place p x
+      → IsExplained (checked_of read) place p x

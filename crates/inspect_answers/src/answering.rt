@@ -115,7 +115,7 @@ fn answer_ways<K: Sink>(
 }
 
 /// Writes what is answered to an input.
-#[tactic(auto, using(crate::proofs::Told::took_ways, crate::proofs::Taken::took_expected, crate::proofs::TookIdle::took_unused, crate::proofs::TookReasons::took_explained))]
+#[tactic(auto, using(crate::proofs::Told::took_ways, crate::proofs::Taken::took_expected, crate::proofs::TookIdle::took_unused))]
 pub(crate) fn answer<K: Sink>(
     alloc: Global,
     asked: &Asked,
