@@ -32,8 +32,8 @@ def calls(program, inspect):
     for name in ("pictures", "scenarios", "statuses", "rehearsals", "installs", "captures", "forms", "exports",
                  "allocations"):
         yield f"{name}.py", [program]
-    yield from ((f"inspect_{it}.py", [inspect]) for it in ("ways", "unused"))
-    yield from ((f"inspect_{it}.py", [inspect, program]) for it in ("diff", "expect", "hitless"))
+    yield from ((f"inspect_{it}.py", [inspect]) for it in ("ways", "unused", "json"))
+    yield from ((f"inspect_{it}.py", [inspect, program]) for it in ("diff", "expect", "hitless", "why"))
     yield "windows.py", [inspect, program]
     yield "shorts.py", []
     yield "ways.py", []

@@ -17,7 +17,6 @@ use control_wants::wanted_down;
 use ov_types::{Addr, DownKey, DownValue, Entry, InstanceId, LowKey, NoMemory, Prefix, TableRow};
 use std::alloc::Global;
 use vpn_tables::VpnTables;
-use vpn_tables_by_prefix::IndexedTables;
 
 /// A key of agents, with what is told at it.
 #[derive(Drop)]
@@ -50,7 +49,7 @@ fn entry_of(row: Option<TableRow>) -> Option<Entry>
     })
 }
 
-fn with_row(tables: &IndexedTables, key: &DownKey) -> Result<ItemKey, NoMemory>
+fn with_row(tables: &VpnTables, key: &DownKey) -> Result<ItemKey, NoMemory>
     ensures key { IfOk result (λ item. key_in item ≡ key.now) }
     ensures row { IfOk result (λ item. HasItsRow tables.now item) }
 {
@@ -70,7 +69,7 @@ fn with_row(tables: &IndexedTables, key: &DownKey) -> Result<ItemKey, NoMemory>
 /// What is marked of agents, in the order of keys.
 pub fn items_marked(
     alloc: Global,
-    tables: &IndexedTables,
+    tables: &VpnTables,
     dirty: &Dirty,
 ) -> Result<Vec<MarkedItem>, NoMemory>
     ensures { IfOk result (λ marked. AreMarkedItems dirty.now tables.now marked.items) }

@@ -21,7 +21,6 @@ use crate::whom::Whom;
 use ov_sync::Delta;
 use ov_types::{Addr, DownKey, InstanceId, LowKey, LowValue, NoMemory};
 use vpn_tables::VpnTables;
-use vpn_tables_by_prefix::IndexedTables;
 
 /// Whether a change leaves whether an object is held at its name.
 fn is_held_still(tables: &VpnTables, delta: &Delta<LowKey, LowValue>) -> bool
@@ -188,7 +187,7 @@ impl Dirty {
     /// Applies a change that the feed told, and marks what it may change.
     pub fn set_low(
         &mut self,
-        tables: &mut IndexedTables,
+        tables: &mut VpnTables,
         delta: Delta<LowKey, LowValue>,
     ) -> Result<(), NoMemory>
         requires { PutOf Fits delta }
@@ -197,15 +196,14 @@ impl Dirty {
         ensures within { IsWithin self.old self.new }
         ensures covers { Covered self.old self.new tables.old tables.new }
     {
-        let before = tables.held();
         let name = key_of(&delta);
-        let stays = port_stays(before, &delta);
-        mark_name(self, before, &delta);
-        mark_held(self, before, &name, stays);
-        mark_own_table(self, before, &name);
+        let stays = port_stays(tables, &delta);
+        mark_name(self, tables, &delta);
+        mark_held(self, tables, &key_of(&delta), stays);
+        mark_own_table(self, tables, &key_of(&delta));
         tables.set_low(delta)?;
-        mark_held(self, tables.held(), &name, stays);
-        mark_own_table(self, tables.held(), &name);
+        mark_held(self, tables, &name, stays);
+        mark_own_table(self, tables, &name);
         Ok(())
     }
 }

@@ -25,7 +25,6 @@ use ov_types::{
     Addr, DownKey, InstanceId, Label, NoMemory, Prefix, TableRow, Target, UpKey, VpnKey, VpnRoute,
 };
 use vpn_tables::VpnTables;
-use vpn_tables_by_prefix::IndexedTables;
 
 /// The key of a change.
 pub(crate) fn key_of<K: Copy, V>(delta: &Delta<K, V>) -> K
@@ -177,7 +176,7 @@ impl Dirty {
     /// Applies a change that an agent told on its session, and marks what it may change.
     pub fn set_publication(
         &mut self,
-        tables: &mut IndexedTables,
+        tables: &mut VpnTables,
         session: u16,
         delta: Delta<UpKey, Label>,
     ) -> Result<(), NoMemory>
@@ -186,13 +185,12 @@ impl Dirty {
         ensures within { IsWithin self.old self.new }
         ensures covers { Covered self.old self.new tables.old tables.new }
     {
-        let before = tables.held();
-        before.uses_are_short();
-        mark_own(self, before, session, &key_of(&delta));
-        match mark_publication(self, before, session, &delta) {
+        tables.uses_are_short();
+        mark_own(self, tables, session, &key_of(&delta));
+        match mark_publication(self, tables, session, &delta) {
             Ok(targets) => {
                 tables.set_publication(session, delta)?;
-                mark_led(self, tables.held(), &targets);
+                mark_led(self, tables, &targets);
                 Ok(())
             }
             Err(_) => {
@@ -205,7 +203,7 @@ impl Dirty {
     /// Applies a change that a peer told on its session, and marks what it may change.
     pub fn set_peer_route(
         &mut self,
-        tables: &mut IndexedTables,
+        tables: &mut VpnTables,
         session: u16,
         delta: Delta<VpnKey, VpnRoute>,
     ) -> Result<(), NoMemory>
@@ -214,13 +212,12 @@ impl Dirty {
         ensures within { IsWithin self.old self.new }
         ensures covers { Covered self.old self.new tables.old tables.new }
     {
-        let before = tables.held();
-        before.uses_are_short();
+        tables.uses_are_short();
         self.add_route(key_of(&delta));
-        match mark_route(self, before, session, &delta) {
+        match mark_route(self, tables, session, &delta) {
             Ok(targets) => {
                 tables.set_peer_route(session, delta)?;
-                mark_led(self, tables.held(), &targets);
+                mark_led(self, tables, &targets);
                 Ok(())
             }
             Err(_) => {

@@ -72,8 +72,7 @@ impl ControlEnds {
         ensures begun { IfOk result (λ replies. IsBegun self.old.plan self.old.posts session (input.Opened session)
             replies None [] self.new.posts) }
     {
-        self.dirty
-            .add_address(self.tables.held().address_of(session));
+        self.dirty.add_address(self.tables.address_of(session));
         let end = &mut self.agents[place];
         let replies = greet_agent(self.alloc, end, &self.me.name)?;
         Ok(replies)

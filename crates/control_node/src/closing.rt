@@ -4,14 +4,14 @@ ghost use Rattle.item_wire.specs.declared.event.ItemState.TheVariants as ItemSta
 ghost use Rattle.node_core.specs.NodeModel.Step.{nothing};
 ghost use Rattle.vpn_tables.specs.Changes.{without};
 ghost use Rattle.vpn_tables.specs.Listing.{told_in};
-ghost use Rattle.vpn_tables_by_prefix.specs.ControlSilentAgentLaws.Quiet.{PublishesNothing};
+ghost use Rattle.vpn_tables.specs.ControlSilentAgentLaws.Quiet.{PublishesNothing};
 ghost use Rattle.control_node.specs.Places.{IsPlace};
 ghost use Rattle.control_node.specs.Ends.{closed_peer, closed_agent};
 
 use crate::ends::{AgentEnd, ControlEnds, PeerEnd};
 use control_marks::Dirty;
 use item_wire::ItemSession;
-use vpn_tables_by_prefix::IndexedTables;
+use vpn_tables::VpnTables;
 
 /// Where the end of a session stands.
 #[derive(Clone, Copy)]
@@ -59,7 +59,7 @@ fn shut_agent(end: &mut AgentEnd)
 }
 
 /// Nothing is held any more of a session, and everything is marked.
-fn lose(tables: &mut IndexedTables, dirty: &mut Dirty, session: u16)
+fn lose(tables: &mut VpnTables, dirty: &mut Dirty, session: u16)
     ensures tables { tables.new ≡ without tables.old session }
     ensures all { dirty.new.all ≡ true }
 {
@@ -69,7 +69,7 @@ fn lose(tables: &mut IndexedTables, dirty: &mut Dirty, session: u16)
 
 /// Nothing is held any more of an agent's session. Where something was published on it, everything is marked, and else
 /// nothing is: what it told was told to nobody else.
-pub(crate) fn lose_agent(tables: &mut IndexedTables, dirty: &mut Dirty, session: u16)
+pub(crate) fn lose_agent(tables: &mut VpnTables, dirty: &mut Dirty, session: u16)
     ensures tables { tables.new ≡ without tables.old session }
     ensures kept { dirty.new.all ≡ false → dirty.new ≡ dirty.old }
     ensures silent { dirty.new.all ≡ false → PublishesNothing (told_in tables.old.agents session).map }

@@ -21,7 +21,7 @@ use ov_sync::SyncOut;
 use ov_types::{DownKey, DownValue, NoMemory, NodeId, VpnKey, VpnRoute};
 use std::alloc::Global;
 use std::marker::Model;
-use vpn_tables_by_prefix::IndexedTables;
+use vpn_tables::VpnTables;
 
 /// The end of a session with a peer, and what was sent on it.
 #[derive(Drop)]
@@ -59,7 +59,7 @@ impl AgentEnd {
 pub(crate) struct ControlEnds {
     pub(crate) me: NodeId,
     pub(crate) asn: u32,
-    pub(crate) tables: IndexedTables,
+    pub(crate) tables: VpnTables,
     /// What may have changed of what sessions are to be told, since the last pass.
     pub(crate) dirty: Dirty,
     pub(crate) feed: ItemSession,

@@ -27,7 +27,7 @@ use control_marks::Dirty;
 use item_wire::{ItemCause, ItemSession};
 use ov_types::{Addr, Items, Name, NoMemory};
 use std::alloc::Global;
-use vpn_tables_by_prefix::IndexedTables;
+use vpn_tables::VpnTables;
 
 /// Opens the end of a session with a peer: its OPEN is to be sent.
 pub(crate) fn greet_peer(
@@ -70,7 +70,7 @@ pub(crate) fn hear_from_feed(
     alloc: Global,
     feed: &mut ItemSession,
     dirty: &mut Dirty,
-    tables: &mut IndexedTables,
+    tables: &mut VpnTables,
     bytes: &[u8],
 ) -> Result<HeardItems, NoMemory>
     requires from { feed.old.from ≡ From.Feed }
@@ -114,7 +114,7 @@ pub(crate) fn hear_from_agent(
     alloc: Global,
     end: &mut AgentEnd,
     dirty: &mut Dirty,
-    tables: &mut IndexedTables,
+    tables: &mut VpnTables,
     session: u16,
     bytes: &[u8],
 ) -> Result<HeardItems, NoMemory>
@@ -172,7 +172,7 @@ pub(crate) fn hear_from_peer(
     alloc: Global,
     end: &mut PeerEnd,
     dirty: &mut Dirty,
-    tables: &mut IndexedTables,
+    tables: &mut VpnTables,
     session: u16,
     asn: u32,
     me: Addr,

@@ -42,6 +42,6 @@ impl ControlEnds {
         ensures shown { IfOk result (λ rows. rows ≡ rows_of (holdings self.now.plan self.now.posts)) }
         ensures ascending { IfOk result (λ rows. IsStrictlySortedBy row_key_cmp (map (λ row. row.0) rows)) }
     {
-        control_wants::rows(self.alloc, self.tables.held())
+        control_wants::rows(self.alloc, &self.tables)
     }
 }

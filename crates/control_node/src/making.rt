@@ -13,7 +13,7 @@ use node_items::config_name;
 use ov_sync::{Delta, SyncOut};
 use ov_types::{Addr, NoMemory, NodeId, Prefix, Rd, VpnKey};
 use std::alloc::Global;
-use vpn_tables_by_prefix::IndexedTables;
+use vpn_tables::VpnTables;
 
 fn new_peers(alloc: Global, asn: u32, ids: &[NodeId]) -> Result<Vec<PeerEnd>, NoMemory>
     ensures { IfOk result (λ ends. ends.items ≡ map (new_peer asn) ids.now) }
@@ -50,7 +50,7 @@ fn new_agents(alloc: Global, ids: &[NodeId]) -> Result<Vec<AgentEnd>, NoMemory>
 }
 
 /// Makes a place in the tables for each peer up to the last, by a change that tells nothing.
-fn seat_peers(tables: &mut IndexedTables, last: u16) -> Result<(), NoMemory>
+fn seat_peers(tables: &mut VpnTables, last: u16) -> Result<(), NoMemory>
     requires { tables.old.peers ≡ [] }
     ensures { OnOk result (tables.new ≡ record tables.old { peers = replicate last empty }) }
 {
@@ -63,7 +63,7 @@ fn seat_peers(tables: &mut IndexedTables, last: u16) -> Result<(), NoMemory>
 }
 
 /// Makes a place in the tables for each agent, whose sessions have the numbers from the first on.
-fn seat_agents(tables: &mut IndexedTables, first: u16, agents: &[NodeId]) -> Result<(), NoMemory>
+fn seat_agents(tables: &mut VpnTables, first: u16, agents: &[NodeId]) -> Result<(), NoMemory>
     requires few { first + length agents.now ≤ 65535 }
     requires none { tables.old.agents ≡ [] }
     ensures { OnOk result (tables.new ≡ record tables.old { agents = told_from first agents.now [] }) }
@@ -82,11 +82,11 @@ fn new_tables(
     asn: u32,
     peers: &[NodeId],
     agents: &[NodeId],
-) -> Result<IndexedTables, NoMemory>
+) -> Result<VpnTables, NoMemory>
     requires few { length peers.now + length agents.now < 65535 }
     ensures { IfOk result (λ tables. tables ≡ none_told asn peers.now agents.now) }
 {
-    let mut tables = IndexedTables::new(alloc, asn);
+    let mut tables = VpnTables::new(alloc, asn);
     let last = peers.len() as u16;
     seat_peers(&mut tables, last)?;
     seat_agents(&mut tables, last + 1, agents)?;

@@ -17,7 +17,7 @@ impl ControlEnds {
     pub(crate) fn held(&self) -> &VpnTables
         ensures { result.now ≡ holdings self.now.plan self.now.posts }
     {
-        self.tables.held()
+        &self.tables
     }
 }
 

@@ -33,7 +33,6 @@ use ov_sync::Delta;
 use ov_types::{DownKey, DownValue, Items, NoMemory, VpnKey, VpnRoute};
 use std::alloc::Global;
 use vpn_tables::VpnTables;
-use vpn_tables_by_prefix::IndexedTables;
 
 /// The octets of changes of routes, each a message.
 fn spell_routes(
@@ -208,7 +207,7 @@ fn plan_sessions(
 /// The plans of all sessions by what is held. Each row of a marked key is selected once for all agents.
 fn plan_all(
     alloc: Global,
-    tables: &IndexedTables,
+    tables: &VpnTables,
     dirty: &Dirty,
     peers: &mut [PeerEnd],
     agents: &mut [AgentEnd],
@@ -224,13 +223,13 @@ fn plan_all(
     ensures told { IfOk result (λ plans. ArePlanned tables.now peers.old peers.new agents.old agents.new plans.items) }
 {
     let marked = items_marked(alloc, tables, dirty)?;
-    plan_sessions(alloc, tables.held(), dirty, &marked, peers, agents)
+    plan_sessions(alloc, tables, dirty, &marked, peers, agents)
 }
 
 /// The plans of all sessions by what is held, after which nothing is marked. Where memory is wanting, everything is.
 pub(crate) fn plan_marked(
     alloc: Global,
-    tables: &IndexedTables,
+    tables: &VpnTables,
     dirty: &mut Dirty,
     peers: &mut [PeerEnd],
     agents: &mut [AgentEnd],

@@ -17,10 +17,10 @@ use item_wire::Item;
 use node_items::{low_change, up_change};
 use ov_sync::Delta;
 use ov_types::{NoMemory, VpnKey, VpnRoute};
-use vpn_tables_by_prefix::IndexedTables;
+use vpn_tables::VpnTables;
 
 /// Applies a record of the feed.
-fn take_object(dirty: &mut Dirty, tables: &mut IndexedTables, item: Item) -> Result<(), NoMemory>
+fn take_object(dirty: &mut Dirty, tables: &mut VpnTables, item: Item) -> Result<(), NoMemory>
     requires feed { is_of_feed item ≡ true }
     requires writable { IsWritable item }
     ensures ok { OnOk result (tables.new ≡ feed_by (λ m. changed_by m (change_of item)) tables.old) }
@@ -39,7 +39,7 @@ fn take_object(dirty: &mut Dirty, tables: &mut IndexedTables, item: Item) -> Res
 /// Applies the records of the feed in order.
 pub(crate) fn take_objects(
     dirty: &mut Dirty,
-    tables: &mut IndexedTables,
+    tables: &mut VpnTables,
     records: Vec<Item>,
 ) -> Result<(), NoMemory>
     requires feed { AllByRecursion (λ i. is_of_feed i ≡ true) records.items }
@@ -57,7 +57,7 @@ pub(crate) fn take_objects(
 /// Applies a record of an agent.
 fn take_publication(
     dirty: &mut Dirty,
-    tables: &mut IndexedTables,
+    tables: &mut VpnTables,
     session: u16,
     item: Item,
 ) -> Result<(), NoMemory>
@@ -79,7 +79,7 @@ fn take_publication(
 /// Applies the records of an agent in order.
 pub(crate) fn take_publications(
     dirty: &mut Dirty,
-    tables: &mut IndexedTables,
+    tables: &mut VpnTables,
     session: u16,
     records: Vec<Item>,
 ) -> Result<(), NoMemory>
@@ -99,7 +99,7 @@ pub(crate) fn take_publications(
 /// Applies the changes of routes of a peer in order.
 pub(crate) fn take_routes(
     dirty: &mut Dirty,
-    tables: &mut IndexedTables,
+    tables: &mut VpnTables,
     session: u16,
     changes: Vec<Delta<VpnKey, VpnRoute>>,
 ) -> Result<(), NoMemory>

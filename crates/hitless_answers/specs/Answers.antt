@@ -7,7 +7,8 @@ use Rattle.config_types.specs.declared.edit.Edit.{Edit}
 use Rattle.config_check.specs.Checked.{Checked}
 use Rattle.compile_answers.specs.Answers.{DocumentAnswer, Taken, answer_by, taken_as, taken_from, taken_valid}
 use Rattle.ov_json.specs.Json.{json_of}
-use Rattle.hitless_answers.specs.Lines.{hitless_text}
+use Rattle.inspect_json.specs.declared.form.Form.{Form}
+use Rattle.hitless_answers.specs.FormLines.{hitless_in}
 use Rattle.hitless_answers.specs.Reading.{hitless_at}
 use Rattle.hitless_answers.specs.declared.answering.AskedEdits.{AskedEdits}
 use Rattle.hitless_answers.specs.declared.input.HitlessInput.{HitlessInput}
@@ -18,8 +19,8 @@ hitless_taken d =
     taken_as (λ r. taken_valid (λ x. record { valid = x; edits = r.edits }) r.input) (hitless_at [] d)
 
 -- what `hitless` answers to a document
-unfoldable pub hitless_answer : List ℕ → DocumentAnswer
-hitless_answer octets = answer_by (λ q. hitless_text q.valid q.edits) (taken_from hitless_taken (json_of octets))
+unfoldable pub hitless_answer : Form → List ℕ → DocumentAnswer
+hitless_answer form octets = answer_by (λ q. hitless_in form q.valid q.edits) (taken_from hitless_taken (json_of octets))
 
 -- each edit has the written form
 abbrev pub FitsEdits : AskedEdits → Type 0

@@ -3,5 +3,7 @@ pub mod Reading
 pub mod Judging
 pub mod Sparing
 pub mod Lines
+pub mod EditValues
+pub mod FormLines
 pub mod Promise
 pub mod Answers

@@ -1,7 +1,9 @@
 -- What is promised of what `hitless` says.
-use Rattle.std.specs.Prelude.{◌≡◌, ◌↔◌, ℕ, List, [], ◌∷◌, Option, Some, None, Ok, ⊤}
+use Rattle.std.specs.Prelude.{◌≡◌, ◌<◌, ◌^◌, ◌+◌, ◌↔◌, ℕ, IsTrue, List, [], ◌∷◌, length, Option, Some, None, Ok, ⊤}
 use Rattle.std.specs.List.{All}
 use Rattle.std.specs.Io.KnownBytes.{Appends}
+use Rattle.std.specs.Str.{IsUtf8}
+use Rattle.config_types.specs.declared.config.Config.{Config}
 use Rattle.config_types.specs.declared.edit.Edit.{Edit}
 use Rattle.config_check.specs.Checked.{Checked}
 use Rattle.config_check.specs.Edits.{edited}
@@ -10,7 +12,11 @@ use Rattle.hitless_laws.specs.Keeping.{IsHitless, IsValidAsWritten}
 use Rattle.hitless_cells.specs.Interrupted.{EachHasLine, IsInterrupted}
 use Rattle.hitless_cells.specs.declared.lines.Interruption.{Interruption}
 use Rattle.hitless_answers.specs.Judging.{Standing, fault_in, standing_first, standing_next}
-use Rattle.hitless_answers.specs.Lines.{lines_from}
+use Rattle.inspect_json.specs.Form.{IsReadBack}
+use Rattle.inspect_json.specs.declared.form.Form.{Form}
+use Rattle.hitless_answers.specs.EditValues.{count_value, has_packet_size, packet_value, refused_value}
+use Rattle.hitless_answers.specs.FormLines.{lines_in}
+use Rattle.hitless_answers.specs.Lines.{tied_fault_text}
 use Rattle.hitless_answers.specs.Reading.{hitless_at}
 use Rattle.hitless_answers.specs.declared.input.HitlessInput.{HitlessInput}
 use Rattle.hitless_answers.specs.declared.judging.Judgement.{Judgement}
@@ -37,16 +43,33 @@ AreSaidOf s [] (j ∷ js) = ⊥
 AreSaidOf s (e ∷ es) [] = ⊥
 AreSaidOf s (e ∷ es) (j ∷ js) = IsSaidOf s e j × AreSaidOf (standing_next e s) es js
 
+-- the JSON of each line of an edit that is made reads as what it says, where its numbers have the sizes of their types
+pub record AreReadBack (c : Config) (n : ℕ) (lines : List Interruption) : Type 0 where
+  pub count : length lines < 2 ^ 64 → IsReadBack (count_value n (length lines))
+  pub each : All (λ l. IsTrue (has_packet_size l) → IsReadBack (packet_value c n l)) lines
+
+-- the JSON of what is said of an edit of a number reads as what it says, a refusal where its text is UTF-8
+abbrev pub ReadsSo : Config → ℕ → Judgement → Type 0
+ReadsSo c n (Refused fault) = IsUtf8 (tied_fault_text fault) → IsReadBack (refused_value n fault)
+ReadsSo c n (Made lines) = AreReadBack c n lines
+
+-- of edits one after the other, the first with a number
+abbrev pub AllReadSo : ℕ → List Edit → Standing → List Judgement → Type 0
+AllReadSo n [] s js = ⊤
+AllReadSo n (e ∷ es) s [] = ⊤
+AllReadSo n (e ∷ es) s (j ∷ js) = (n < 2 ^ 64 → ReadsSo (standing_next e s).checked.config n j) × AllReadSo (n + 1) es (standing_next e s) js
+
 -- the opening configuration of an input, with its topology
 abbrev pub opening_of : HitlessInput → Checked
 opening_of r = record { topology = r.input.topology; config = r.input.config }
 
 -- octets are a document of this input, its configuration is valid, and what was taken is the lines of what is said of its edits,
--- which count from 1
-pub record TookJudgements (octets : List ℕ) (old new : Option (List ℕ)) : Type 0 where
+-- which count from 1, in the form that is asked for; and the JSON of each line reads as what it says
+pub record TookJudgements (form : Form) (octets : List ℕ) (old new : Option (List ℕ)) : Type 0 where
   pub input : HitlessInput
   pub read : AreDocument octets (λ d. hitless_at [] d ≡ Ok input)
   pub valid : IsValidAsWritten (opening_of input)
   pub judgements : List Judgement
-  pub taken : Appends old new (lines_from 1 judgements)
+  pub taken : Appends old new (lines_in form 1 input.edits (standing_first (opening_of input)) judgements)
   pub said : AreSaidOf (standing_first (opening_of input)) input.edits judgements
+  pub reads : AllReadSo 1 input.edits (standing_first (opening_of input)) judgements

@@ -8,7 +8,7 @@ ghost use Rattle.compile_answers.specs.Answers.{WasGiven};
 ghost use Rattle.hitless_answers.specs.Answers.{FitsEdits, hitless_answer, hitless_taken, input_of};
 ghost use Rattle.hitless_laws.specs.Keeping.{IsValidAsWritten};
 ghost use Rattle.hitless_answers.specs.Judging.{judgements, standing_first};
-ghost use Rattle.hitless_answers.specs.Promise.{AreSaidOf, TookJudgements};
+ghost use Rattle.hitless_answers.specs.Promise.{AllReadSo, AreSaidOf, TookJudgements};
 ghost use Rattle.hitless_answers.specs.Reading.{hitless_at};
 
 use crate::input::HitlessInput;
@@ -18,6 +18,7 @@ use crate::writing::write_hitless;
 use compile_answers::{Question, Reception, Unfit, read_question, valid_of, write_unfit};
 use config_check::Valid;
 use config_types::Edit;
+use inspect_json::Form;
 use ov_io::{Sink, WriteRefusal};
 use ov_types::Items;
 use serde_json::Value;
@@ -47,11 +48,12 @@ impl Question for AskedEdits {
     }
 }
 
-/// What is said of edits.
+/// What is said of edits, and what its JSON reads as.
 fn know_judgements(valid: &Valid, edits: &[Edit])
     requires { IsTrue (list_all has_edit_form edits.now) }
     ensures written { IsValidAsWritten valid.now }
     ensures said { AreSaidOf (standing_first valid.now) edits.now (judgements edits.now (standing_first valid.now)) }
+    ensures read { AllReadSo 1 edits.now (standing_first valid.now) (judgements edits.now (standing_first valid.now)) }
 {
     know_written(valid);
 }
@@ -60,20 +62,21 @@ fn know_judgements(valid: &Valid, edits: &[Edit])
 #[tactic(auto, using(compile_answers::proofs::Unfitting::unfit_answered), unfolding(crate::specs::Answers::hitless_answer))]
 pub fn answer_hitless<K: Sink>(
     alloc: Global,
+    form: Form,
     octets: &[u8],
     sink: &mut K,
 ) -> Result<Reception, WriteRefusal>
-    ensures given { IfOk result (λ verdict. WasGiven (hitless_answer octets.now) verdict
+    ensures given { IfOk result (λ verdict. WasGiven (hitless_answer form octets.now) verdict
         (K.taken sink.old) (K.taken sink.new)) }
-    ensures front { OnErr result (TookFront (K.taken sink.old) (K.taken sink.new) (hitless_answer octets.now).text) }
+    ensures front { OnErr result (TookFront (K.taken sink.old) (K.taken sink.new) (hitless_answer form octets.now).text) }
     ensures cause { HasWriteCause (K.faults sink.old) (K.faults sink.new) result }
     ensures promise { IfOk result (λ verdict. verdict ≡ Reception.Good
-        → TookJudgements octets.now (K.taken sink.old) (K.taken sink.new)) }
+        → TookJudgements form octets.now (K.taken sink.old) (K.taken sink.new)) }
 {
     match read_question::<AskedEdits>(alloc, octets) {
         Ok(AskedEdits { valid, edits }) => {
             know_judgements(&valid, edits.as_slice());
-            write_hitless(alloc, valid, edits.as_slice(), sink)?;
+            write_hitless(alloc, form, valid, edits.as_slice(), sink)?;
             Ok(Reception::Good)
         }
         Err(unfit) => write_unfit(alloc, unfit, sink),

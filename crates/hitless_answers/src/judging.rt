@@ -8,7 +8,7 @@ ghost use Rattle.hitless_answers.specs.Judging.{judged, standing, standing_first
 
 use crate::sparing::replaces;
 use config_check::Valid;
-use config_types::Edit;
+use config_types::{Config, Edit};
 use hitless_cells::{Interruption, interruptions};
 use ov_types::{Items, NoMemory};
 use run_ties::{TiedFault, TiedRefusal, Ties, apply_tied_edit};
@@ -74,6 +74,13 @@ impl Judge {
     {
         let ties = Ties::new(alloc, &valid)?;
         Ok(Judge { valid, ties })
+    }
+
+    /// The configuration that stands.
+    pub(crate) fn config(&self) -> &Config
+        ensures { result.now ≡ (standing self.now).checked.config }
+    {
+        self.valid.config()
     }
 
     /// Makes an edit, if it is not refused, and says which packets it interrupts. On want of memory all stays as it is.

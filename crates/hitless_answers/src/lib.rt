@@ -3,8 +3,11 @@
 #![tactic(auto)]
 
 mod answering;
+mod edit_values;
 mod input;
+mod json_lines;
 mod judging;
+pub mod laws;
 mod lines;
 mod reader;
 mod sparing;

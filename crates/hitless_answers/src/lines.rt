@@ -14,7 +14,7 @@ use std::fmt;
 
 /// Why an edit is not made, as it is printed.
 #[derive(Clone, Copy)]
-struct TiedFaultText<'a>(&'a TiedFault);
+pub(crate) struct TiedFaultText<'a>(pub(crate) &'a TiedFault);
 
 impl fmt::Display for TiedFaultText<'_> {
     ghost output = { λ t. Some (tied_fault_text t.0.now) };

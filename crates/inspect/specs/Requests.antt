@@ -1,7 +1,7 @@
 -- What the words of the command line ask of the program itself, and which file they name.
 use Rattle.std.specs.Prelude.{◌≡◌, IsSome, ℕ, ◌||◌, List, [], ◌∷◌, codes, nat_eq, Option, Some, None}
 use Rattle.std.specs.Prelude.{String, string_bytes, true, if◌then◌else◌}
-use Rattle.inspect_answers.specs.Commands.{asked_of, is_diff}
+use Rattle.inspect_answers.specs.Commands.{asked_of, is_diff, named_by}
 use Rattle.inspect_answers.specs.declared.asked.Asked.{Asked}
 use Rattle.std.specs.declared.alloc.Global.{Global}
 use Rattle.std.specs.Cmp.Lexicographic.{pointwise}
@@ -20,18 +20,25 @@ request_of [] = request.Run
 request_of (word ∷ []) = request_named (string_bytes word)
 request_of (word ∷ other ∷ words) = request.Run
 
--- the file is named by the second word
+-- the first word of some, and the second
+abbrev pub first_of : List (String Global) → Option (List ℕ)
+first_of [] = None
+first_of (file ∷ words) = Some (string_bytes file)
+
+abbrev pub second_of : List (String Global) → Option (List ℕ)
+second_of [] = None
+second_of (file ∷ []) = None
+second_of (file ∷ other ∷ words) = Some (string_bytes other)
+
+-- the file is named by the first word behind the command, and behind `--json`
 abbrev pub file_of : List (String Global) → Option (List ℕ)
 file_of [] = None
-file_of (command ∷ []) = None
-file_of (command ∷ file ∷ words) = Some (string_bytes file)
+file_of (command ∷ words) = first_of (named_by words)
 
--- the second file of two is named by the third word
+-- the second file of two is named by the word behind that
 abbrev pub file_after_of : List (String Global) → Option (List ℕ)
 file_after_of [] = None
-file_after_of (command ∷ []) = None
-file_after_of (command ∷ file ∷ []) = None
-file_after_of (command ∷ file ∷ other ∷ words) = Some (string_bytes other)
+file_after_of (command ∷ words) = second_of (named_by words)
 
 -- words that are a command ask nothing of the program itself
 abbrev pub CommandsAreNoRequests : Type 0

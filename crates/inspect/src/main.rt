@@ -5,7 +5,7 @@ ghost use Rattle.std.specs.Prelude.{◌≡◌, ◌≢◌, ◌↔◌, ◌⊎◌, 
 ghost use Rattle.std.specs.IoError.{error_kind};
 ghost use Rattle.std.specs.declared.io.ErrorKind.TheVariants.{OutOfMemory};
 ghost use Rattle.std.specs.Process.{exit_status};
-ghost use Rattle.inspect.specs.Requests.{file_after_of, file_of, request_named, request_of};
+ghost use Rattle.inspect.specs.Requests.{file_after_of, file_of, first_of, request_named, request_of, second_of};
 ghost use Rattle.inspect_answers.specs.Runs.{number_of};
 
 mod laws;
@@ -15,7 +15,7 @@ use explanations::{
     Advice, Explanation, FrontSink, HeardSource, KeptInput, explain_form, explain_refusal,
     explain_stop,
 };
-use inspect_answers::{Status, Which, asked_of, inspect, inspect_diff, is_diff};
+use inspect_answers::{Status, Which, asked_of, inspect, inspect_diff, is_diff, named_by};
 use ov_io::{StdSink, StdSource};
 use sentence::Sentence;
 use std::alloc::Global;
@@ -37,6 +37,7 @@ const USAGE: &str = "usage: inspect COMMAND, where a FILE of - is standard input
   hitless FILE         which of a document's edits interrupt packets that are delivered before and after, and which packets
   --help               this text; so does -h
   --version            the version
+with --json behind its word, as in `ways --json FILE`, a command writes lines of JSON, with names beside numbers
 ";
 
 const STATUSES: &str =
@@ -93,13 +94,31 @@ fn words_of<R: Env + AllocGlobal>(rt: &R) -> io::Result<Vec<String>> {
     Ok(words)
 }
 
+fn first_of(words: &[String]) -> Option<&str>
+    ensures { option_copied result ≡ first_of words.now }
+{
+    match words {
+        [file, ..] => Some(file.as_str()),
+        _ => None,
+    }
+}
+
+fn second_of(words: &[String]) -> Option<&str>
+    ensures { option_copied result ≡ second_of words.now }
+{
+    match words {
+        [_, file, ..] => Some(file.as_str()),
+        _ => None,
+    }
+}
+
 /// The file that the words name.
 fn file_of(words: &[String]) -> Option<&str>
     ensures { option_copied result ≡ file_of words.now }
 {
     match words {
-        [_, file, ..] => Some(file.as_str()),
-        _ => None,
+        [] => None,
+        [_, words @ ..] => first_of(named_by(words)),
     }
 }
 
@@ -108,8 +127,8 @@ fn file_after_of(words: &[String]) -> Option<&str>
     ensures { option_copied result ≡ file_after_of words.now }
 {
     match words {
-        [_, _, file, ..] => Some(file.as_str()),
-        _ => None,
+        [] => None,
+        [_, words @ ..] => second_of(named_by(words)),
     }
 }
 

@@ -9,6 +9,8 @@ use Rattle.std.specs.Io.KnownBytes.{Appends}
 use Rattle.config_check.specs.Checked.{Checked}
 use Rattle.inspect_answers.specs.Changes.{IsValidIn, TookDifferences}
 use Rattle.inspect_changes.specs.DifferenceLines.{lists_text}
+use Rattle.inspect_json.specs.ChangeLines.{lists_in}
+use Rattle.inspect_json.specs.declared.form.Form.{Form}
 use Rattle.inspect_answers.specs.Differences.{SaysWhether, Tells}
 use Rattle.inspect_changes.specs.Fates.{all_differences}
 use Rattle.inspect_changes.specs.Objects.{gone}
@@ -18,7 +20,9 @@ use Rattle.inspect_answers.specs.declared.diffing.Comparison.{Comparison}
 use Rattle.inspect_answers.specs.declared.diffing.Comparison.TheVariants.{Same, Differs, UnfitBefore, UnfitAfter}
 use Rattle.inspect_answers.specs.declared.top.Status.TheVariants as Ended
 use Rattle.inspect_changes.proofs.WhatWent.{gone_is, is_gone}
+use Rattle.inspect_json.proofs.ReadBack.{came_reads, difference_reads, went_reads}
 use Rattle.inspect_changes.proofs.Throughout.{exact, one_line, told}
+use Rattle.inspect_answers.proofs.LineSizes.{each_difference, object_sized}
 
 alike : (found : Comparison) (text : List ℕ) → SaysWhether found text → (status_found found ≡ Ended.Done) ↔ (text ≡ [])
 alike Same text h = ((λ e. h), (λ e. refl))
@@ -32,11 +36,11 @@ otherwise Differs text h = ((λ e. h), (λ n. refl))
 otherwise (UnfitBefore r) text h = absurd h
 otherwise (UnfitAfter r) text h = absurd h
 
-pub took : (found : Comparison) (v w : Checked) (first second : List ℕ) (old new : Option (List ℕ)) → IsValidIn first v → IsValidIn second w
+pub took : (form : Form) (found : Comparison) (v w : Checked) (first second : List ℕ) (old new : Option (List ℕ)) → IsValidIn first v → IsValidIn second w
     → SaysWhether found (lists_text (gone v.config w.config) (gone w.config v.config) (all_differences v.config w.config))
-    → Appends old new (lists_text (gone v.config w.config) (gone w.config v.config) (all_differences v.config w.config))
-    → TookDifferences (status_found found) first second old new
-took found v w first second old new read_first read_second says taken =
+    → Appends old new (lists_in form v.config w.config (gone v.config w.config) (gone w.config v.config) (all_differences v.config w.config))
+    → TookDifferences form (status_found found) first second old new
+took form found v w first second old new read_first read_second says taken =
     let c = v.config in
     let d = w.config in
     let text : List ℕ = lists_text (gone c d) (gone d c) (all_differences c d) in
@@ -56,6 +60,10 @@ took found v w first second old new read_first read_second says taken =
       apart = λ from to t x y tuple on_x on_y. one_line v.topology w.topology c d from to t x y read_first.valid read_second.valid tuple on_x on_y;
       alike = alike found text says;
       otherwise = otherwise found text says;
+      went_reads = λ o at. went_reads c o read_first.form (object_sized c d o read_first.form at);
+      came_reads = λ o at. came_reads d o read_second.form (object_sized d c o read_second.form at);
+      reads = λ x at. difference_reads c d x read_first.form read_second.form
+          (each_difference v.topology w.topology c d read_first.form read_second.form read_first.valid read_second.valid x at);
     }
 
 -- what is promised of an answer is promised of one that has something to it

@@ -1,5 +1,5 @@
 -- The lines of `expect` are of the packets whose outcome is otherwise than expected.
-use Rattle.std.proofs.Common.{◌≡◌, ◌<◌, ◌↔◌, ◌+◌, ℕ, zero, suc, Bool, true, false, cond, not, List, [], ◌∷◌, ◌++◌, Some}
+use Rattle.std.proofs.Common.{◌≡◌, ◌<◌, ◌≤◌, ◌↔◌, ◌+◌, ℕ, zero, suc, Bool, true, false, cond, not, List, [], ◌∷◌, ◌++◌, Some}
 use Rattle.std.proofs.Common.{refl, sym, ap, ◌∙◌, subst, arith, inl, inr, length, flat_map}
 use Rattle.std.specs.Prelude.{◌&&◌, slice_get, slice_index_or}
 use Rattle.std.specs.List.{All, AllPairs, Any, Contains}
@@ -10,9 +10,10 @@ use Rattle.ov_types.proofs.FirstLemmas.{any_of, contains_cases, contains_here, c
 use Rattle.config_types.specs.declared.config.Config.{Config}
 use Rattle.reach_plain.specs.Reachability.{reachability}
 use Rattle.inspect_answers.specs.Expectations.{Expectation}
-use Rattle.inspect_answers.specs.Expecting.{all_met, comes_so, unmet_count, unmet_from, unmet_line}
+use Rattle.inspect_answers.specs.Expecting.{all_met, comes_so, unmet_count, unmet_from, unmet_line_in}
+use Rattle.inspect_json.specs.declared.form.Form.{Form}
 use Rattle.inspect_answers.specs.Runs.{status_of}
-use Rattle.inspect_answers.specs.Unmet.{ComesSo, IsUnmet, Unmet, line_text}
+use Rattle.inspect_answers.specs.Unmet.{ComesSo, IsUnmet, Unmet, line_in}
 use Rattle.inspect_answers.specs.declared.top.Status.TheVariants as Ended
 use Rattle.inspect_answers.specs.declared.verdict.Verdict.TheVariants as Found
 use Rattle.inspect_answers.proofs.Meeting.{met_is, is_met_so}
@@ -30,13 +31,13 @@ abbrev pub lines_from : Config → ℕ → List Expectation → List Unmet
 lines_from c n [] = []
 lines_from c n (e ∷ es) = lines_at c n e ++ lines_from c (n + 1) es
 
-pub text_of_lines : (c : Config) (n : ℕ) (es : List Expectation) → unmet_from c n es ≡ flat_map line_text (lines_from c n es)
-text_of_lines c n [] = refl
-text_of_lines c n (e ∷ es) =
-    elim (comes_so c e) as (λ b. cond b [] (unmet_line n e.expected (reachability c e.packet)) ++ unmet_from c (n + 1) es
-    ≡ flat_map line_text (cond b [] (line_of c n e ∷ []) ++ lines_from c (n + 1) es)) [
-      | true ↦ text_of_lines c (n + 1) es
-      | false ↦ ap (λ (t : List ℕ). unmet_line n e.expected (reachability c e.packet) ++ t) (text_of_lines c (n + 1) es)
+pub text_of_lines : (form : Form) (c : Config) (n : ℕ) (es : List Expectation) → unmet_from form c n es ≡ flat_map (line_in form c) (lines_from c n es)
+text_of_lines form c n [] = refl
+text_of_lines form c n (e ∷ es) =
+    elim (comes_so c e) as (λ b. cond b [] (unmet_line_in form c n e.expected (reachability c e.packet)) ++ unmet_from form c (n + 1) es
+    ≡ flat_map (line_in form c) (cond b [] (line_of c n e ∷ []) ++ lines_from c (n + 1) es)) [
+      | true ↦ text_of_lines form c (n + 1) es
+      | false ↦ ap (λ (t : List ℕ). unmet_line_in form c n e.expected (reachability c e.packet) ++ t) (text_of_lines form c (n + 1) es)
     ]
 
 pub count_of_lines : (c : Config) (n : ℕ) (es : List Expectation) → unmet_count c es ≡ length (lines_from c n es)
@@ -46,6 +47,15 @@ count_of_lines c n (e ∷ es) =
     ∙ elim (comes_so c e) as (λ b. cond (not b) 1 0 + unmet_count c es ≡ length (cond b [] (line_of c n e ∷ []) ++ lines_from c (n + 1) es)) [
       | true ↦ let rest = count_of_lines c (n + 1) es in omega (arith, rest)
       | false ↦ let rest = count_of_lines c (n + 1) es in omega (arith, rest)
+    ]
+
+pub fewer : (c : Config) (n : ℕ) (es : List Expectation) → length (lines_from c n es) ≤ length es
+fewer c n [] = omega arith
+fewer c n (e ∷ es) =
+    let rest = fewer c (n + 1) es in
+    elim (comes_so c e) as (λ b. length (cond b [] (line_of c n e ∷ []) ++ lines_from c (n + 1) es) ≤ suc (length es)) [
+      | true ↦ omega (arith, rest)
+      | false ↦ omega (arith, rest)
     ]
 
 -- a line is of the packet at a place, of which the first has a number

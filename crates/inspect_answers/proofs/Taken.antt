@@ -1,65 +1,89 @@
 -- What is taken of the answer of `expect` is as it promises.
-use Rattle.std.proofs.Common.{◌≡◌, ◌↔◌, ℕ, cond, List, [], ◌++◌, Option, Some, None, Result, Ok, Err}
-use Rattle.std.proofs.Common.{refl, sym, ap, ◌∙◌, subst, length, flat_map}
-use Rattle.std.specs.List.{All, Any}
+use Rattle.std.proofs.Common.{◌≡◌, ◌<◌, ◌^◌, ◌↔◌, ℕ, true, cond, List, [], ◌++◌, Option, Some, None, Result, Ok, Err}
+use Rattle.std.proofs.Common.{refl, sym, ap, ◌∙◌, subst, length, flat_map, arith}
+use Rattle.std.specs.Prelude.{IfOk}
+use Rattle.std.specs.List.{All, Any, Contains}
 use Rattle.std.specs.Io.KnownBytes.{Appends}
 use Rattle.serde_json.specs.Data.{Data}
 use Rattle.ov_json.specs.Json.{json_of}
+use Rattle.ov_types.specs.declared.packet.Outcome.{Outcome}
+use Rattle.config_types.specs.Form.{has_config_form}
+use Rattle.config_types.specs.declared.config.Config.{Config}
+use Rattle.config_types.specs.declared.topology.Topology.{Topology}
 use Rattle.config_model.specs.Faults.{Fault}
 use Rattle.config_check.specs.Rules.{first_broken}
 use Rattle.config_check.specs.declared.refusal.Refusal.{Refusal}
 use Rattle.inspect_answers.specs.Answers.{Answer, IsAnswer, WasGiven, answer_unless, expect_answer, expect_reading, expect_value, expected_answer, of_json}
-use Rattle.inspect_answers.specs.Expectations.{ExpectInput, expect_at}
-use Rattle.inspect_answers.specs.Expecting.{all_met, counts_line, expect_text, unmet_count}
+use Rattle.inspect_answers.specs.Expectations.{ExpectInput, Expectation, expect_at}
+use Rattle.inspect_answers.specs.ExpectValues.{has_expected_size}
+use Rattle.inspect_answers.specs.Expecting.{all_met, counts_in, expect_in, unmet_count}
+use Rattle.inspect_json.specs.Form.{IsReadBack}
+use Rattle.inspect_json.specs.Sizes.{has_outcome_size}
+use Rattle.inspect_json.specs.declared.form.Form.{Form}
+use Rattle.inspect_answers.specs.InForm.{AreExpectedInForm}
+use Rattle.inspect_answers.proofs.Formed.{in_form}
 use Rattle.inspect_answers.specs.Runs.{status_of}
-use Rattle.inspect_answers.specs.Unmet.{ComesSo, IsExpectedIn, TookExpected, line_text}
+use Rattle.inspect_answers.specs.Unmet.{ComesSo, IsExpectedIn, TookExpected, Unmet, line_in, line_value}
 use Rattle.inspect_answers.specs.declared.top.Status.TheVariants as Ended
 use Rattle.inspect_answers.specs.declared.verdict.Verdict.{Verdict}
 use Rattle.inspect_answers.specs.declared.verdict.Verdict.TheVariants as Found
-use Rattle.inspect_answers.proofs.Otherwise.{count_of_lines, differs_where, done_where, exact, in_order, lines_from, text_of_lines}
+use Rattle.inspect_answers.proofs.ExpectReadBack.{counts_reads, unmet_reads}
+use Rattle.inspect_answers.proofs.Otherwise.{count_of_lines, differs_where, done_where, exact, fewer, in_order, lines_from, text_of_lines}
+use Rattle.inspect_answers.proofs.PacketSizes.{outcome_sized}
+use Rattle.inspect_answers.proofs.RuleSizes.{within}
 
 -- the input
 
 -- a valid configuration and expectations were read, and what is said of them is the answer
-record IsRead (octets : List ℕ) : Type 0 where
+record IsRead (form : Form) (octets : List ℕ) : Type 0 where
   pub read : ExpectInput
   pub written : IsExpectedIn octets read
   pub valid : first_broken read.input.topology read.input.config ≡ None
-  pub is : expect_answer octets ≡ expected_answer read.input.config read.packets
+  pub is : expect_answer form octets ≡ expected_answer form read.input.config read.packets
 
 by_answer : (broken : Option Refusal) (answer : Answer) → IsAnswer (answer_unless broken answer).verdict
     → (broken ≡ None) × (answer_unless broken answer ≡ answer)
 by_answer (Some r) answer h = absurd h
 by_answer None answer h = (refl, refl)
 
-by_reading : (octets : List ℕ) (d : Data) → json_of octets ≡ Some d → (r : Result ExpectInput Fault) → expect_at [] d ≡ r
-    → expect_answer octets ≡ expect_reading r → IsAnswer (expect_reading r).verdict → IsRead octets
-by_reading octets d e (Err f) read is h = absurd h
-by_reading octets d e (Ok r) read is h =
-    let parts = by_answer (first_broken r.input.topology r.input.config) (expected_answer r.input.config r.packets) h in
+by_reading : (form : Form) (octets : List ℕ) (d : Data) → json_of octets ≡ Some d → (r : Result ExpectInput Fault) → expect_at [] d ≡ r
+    → expect_answer form octets ≡ expect_reading form r → IsAnswer (expect_reading form r).verdict → IsRead form octets
+by_reading form octets d e (Err f) read is h = absurd h
+by_reading form octets d e (Ok r) read is h =
+    let parts = by_answer (first_broken r.input.topology r.input.config) (expected_answer form r.input.config r.packets) h in
     record { read = r; written = (d, e, read); valid = parts.0; is = is ∙ parts.1 }
 
-by_json : (octets : List ℕ) (o : Option Data) → json_of octets ≡ o → expect_answer octets ≡ of_json expect_value o
-    → IsAnswer (of_json expect_value o).verdict → IsRead octets
+by_json : (form : Form) (octets : List ℕ) (o : Option Data) → json_of octets ≡ o → expect_answer form octets ≡ of_json (expect_value form) o
+    → IsAnswer (of_json (expect_value form) o).verdict → IsRead form octets
 unfolding expect_value
-by_json octets None e is h = absurd h
-by_json octets (Some d) e is h = by_reading octets d e (expect_at [] d) refl is h
+by_json form octets None e is h = absurd h
+by_json form octets (Some d) e is h = by_reading form octets d e (expect_at [] d) refl is h
 
-is_read : (octets : List ℕ) → IsAnswer (expect_answer octets).verdict → IsRead octets
+is_read : (form : Form) (octets : List ℕ) → IsAnswer (expect_answer form octets).verdict → IsRead form octets
 unfolding expect_answer
-is_read octets h = by_json octets (json_of octets) refl refl h
+is_read form octets h = by_json form octets (json_of octets) refl refl h
 
-pub took_expected : (octets : List ℕ) (verdict : Verdict) (old new : Option (List ℕ)) → WasGiven (expect_answer octets) verdict old new
-    → IsAnswer verdict → TookExpected (status_of verdict) octets old new
-unfolding expect_text
-took_expected octets verdict old new given answers =
-    let good = is_read octets (subst IsAnswer given.is answers) in
+line_reads : (t : Topology) (c : Config) → has_config_form c ≡ true → first_broken t c ≡ None → (es : List Expectation) → length es < 2 ^ 64
+    → (line : Unmet) → Contains (lines_from c 1 es) line → has_expected_size line.expected ≡ true → IsReadBack (line_value c line)
+line_reads t c form valid es few line at sized =
+    let unmet = (exact c es line).0 at in
+    let inside = within es unmet.place unmet.expectation unmet.stands in
+    let number = unmet.number in
+    unmet_reads c line.number line.expected line.outcome form (omega (arith, number, inside, few)) sized
+    (subst (λ (o : Outcome). has_outcome_size o ≡ true) (sym unmet.outcome) (outcome_sized t c form valid unmet.expectation.packet))
+
+pub took_expected : (form : Form) (octets : List ℕ) (verdict : Verdict) (old new : Option (List ℕ)) → WasGiven (expect_answer form octets) verdict old new
+    → (IsAnswer verdict → AreExpectedInForm octets) → IsAnswer verdict → TookExpected form (status_of verdict) octets old new
+unfolding expect_in
+took_expected form octets verdict old new given of_form answers =
+    let good = is_read form octets (subst IsAnswer given.is answers) in
     let c = good.read.input.config in
     let es = good.read.packets in
-    let text : (expect_answer octets).text ≡ flat_map line_text (lines_from c 1 es) ++ counts_line (length es) (length (lines_from c 1 es)) =
+    let formed : has_config_form c ≡ true = in_form (expect_at []) (λ r. r.input.config) octets good.written.0 good.read (of_form answers) good.written.1 good.written.2 in
+    let text : (expect_answer form octets).text ≡ flat_map (line_in form c) (lines_from c 1 es) ++ counts_in form (length es) (length (lines_from c 1 es)) =
     ap (λ (a : Answer). a.text) good.is
-    ∙ ap (λ (t : List ℕ). t ++ counts_line (length es) (unmet_count c es)) (text_of_lines c 1 es)
-    ∙ ap (λ (n : ℕ). flat_map line_text (lines_from c 1 es) ++ counts_line (length es) n) (count_of_lines c 1 es) in
+    ∙ ap (λ (t : List ℕ). t ++ counts_in form (length es) (unmet_count c es)) (text_of_lines form c 1 es)
+    ∙ ap (λ (n : ℕ). flat_map (line_in form c) (lines_from c 1 es) ++ counts_in form (length es) n) (count_of_lines c 1 es) in
     let verdict_is : cond (all_met c es) Found.Good Found.Differs ≡ verdict = sym (given.is ∙ ap (λ (a : Answer). a.verdict) good.is) in
     record {
       read = good.read;
@@ -71,4 +95,12 @@ took_expected octets verdict old new given answers =
       in_order = in_order c 1 es;
       met = subst (λ (v : Verdict). (status_of v ≡ Ended.Done) ↔ All (ComesSo c) es) verdict_is (done_where c es (all_met c es) refl);
       unmet = subst (λ (v : Verdict). (status_of v ≡ Ended.Differs) ↔ Any (λ e. ¬ ComesSo c e) es) verdict_is (differs_where c es (all_met c es) refl);
+      reads = line_reads good.read.input.topology c formed good.valid es;
+      counts_read = λ few. let fewer_lines = fewer c 1 es in counts_reads (length es) (length (lines_from c 1 es)) few (omega (arith, fewer_lines, few));
     }
+
+pub expected_kept : {E : Type 0} (r : Result Verdict E) (form : Form) (octets : List ℕ) (old new : Option (List ℕ))
+    → IfOk r (λ verdict. WasGiven (expect_answer form octets) verdict old new) → IfOk r (λ verdict. IsAnswer verdict → AreExpectedInForm octets)
+    → IfOk r (λ verdict. IsAnswer verdict → TookExpected form (status_of verdict) octets old new)
+expected_kept (Ok verdict) form octets old new given of_form = took_expected form octets verdict old new given of_form
+expected_kept (Err e) form octets old new given of_form = tt

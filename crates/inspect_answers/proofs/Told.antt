@@ -1,5 +1,6 @@
 -- The text of the answer is that of lines, and these tell of each tuple what decides on it.
 use Rattle.std.proofs.Common.{◌≡◌, ◌≢◌, ◌&&◌, not, ℕ, Bool, true, false, cond, List, [], ◌∷◌, ◌++◌, Option, Some, None, Result, arith, Ok, Err, map, flat_map, refl, sym, ap, ◌∙◌, subst}
+use Rattle.std.specs.Prelude.{IfOk}
 use Rattle.std.specs.List.{Contains}
 use Rattle.std.specs.Io.KnownBytes.{Appends}
 use Rattle.std.proofs.lemmas.Grind.{flat_map-append}
@@ -9,8 +10,11 @@ use Rattle.ov_json.specs.Json.{json_of}
 use Rattle.ov_types.specs.First.{same_name}
 use Rattle.ov_types.specs.declared.packet.Tuple.{Tuple}
 use Rattle.ov_types.proofs.FirstLemmas.{same_name_iff}
+use Rattle.ov_types.specs.Name.{is_name}
+use Rattle.config_types.specs.Form.{has_config_form}
 use Rattle.config_types.specs.declared.config.Config.{Config}
 use Rattle.config_types.specs.declared.config.Network.{Network}
+use Rattle.config_types.specs.declared.topology.Topology.{Topology}
 use Rattle.config_model.specs.Faults.{Fault}
 use Rattle.config_model.specs.Input.{compile_at}
 use Rattle.config_model.specs.declared.input.CompileInput.{CompileInput}
@@ -21,8 +25,10 @@ use Rattle.policy_rules.specs.declared.matching.Decision.{Decision}
 use Rattle.policy_rules.proofs.Lists.{joined_is, is_joined, is_mapped, mapped_is}
 use Rattle.policy_regions.specs.Parts.{IsTuple}
 use Rattle.inspect_answers.specs.Answers.{Answer, IsAnswer, WasGiven, answer_unless, judged, missing_of, of_json, ways_answer, ways_reading, ways_value}
-use Rattle.inspect_changes.specs.Lines.{is_asked, network_text, pair_text, way_line, ways_text}
-use Rattle.inspect_answers.specs.Promise.{IsAskedFor, IsLetBetween, IsWrittenIn, Line, Tells, TookWays, line_text, lines_of, network_lines, pair_lines}
+use Rattle.inspect_changes.specs.Lines.{is_asked}
+use Rattle.inspect_answers.specs.Promise.{IsAskedFor, IsLetBetween, IsWrittenIn, Line, Tells, TookWays, line_in, line_value, lines_of, network_lines, pair_lines}
+use Rattle.inspect_answers.specs.InForm.{AreWrittenInForm}
+use Rattle.inspect_answers.proofs.Formed.{in_form}
 use Rattle.inspect_answers.specs.Runs.{status_of}
 use Rattle.inspect_changes.specs.Ways.{IsLetThrough, ways_between}
 use Rattle.inspect_changes.specs.declared.pairs.Pairs.{Pairs}
@@ -33,6 +39,11 @@ use Rattle.inspect_answers.specs.declared.verdict.Verdict.TheVariants.{Good}
 use Rattle.inspect_changes.specs.declared.way.Passage.{Passage}
 use Rattle.inspect_changes.specs.declared.way.Way.{Way}
 use Rattle.inspect_changes.proofs.Exact.{let_through, on_one, on_one_at_most}
+use Rattle.inspect_json.specs.Form.{IsReadBack}
+use Rattle.inspect_json.specs.WayLines.{network_in, pair_in, way_in, ways_in}
+use Rattle.inspect_json.proofs.ReadBack.{way_reads}
+use Rattle.inspect_json.specs.declared.form.Form.{Form}
+use Rattle.inspect_answers.proofs.LineSizes.{network_form, way_sized}
 
 -- the text
 
@@ -42,19 +53,19 @@ joined_texts f g h each [] = refl
 joined_texts f g h each (x ∷ xs) =
     (λ i. each x i ++ joined_texts f g h each xs i) ∙ sym (flat_map-append f (g x) (flat_map g xs))
 
-text_of_pair : (pairs : Pairs) (c : Config) (a b : Network) → pair_text pairs c a b ≡ flat_map line_text (pair_lines pairs c a b)
-text_of_pair pairs c a b =
-    elim (is_asked pairs a b) as (λ q. cond q (flat_map (way_line a.name b.name) (ways_between c a b)) []
-    ≡ flat_map line_text (cond q (map (λ (w : Way). record { from = a; to = b; way = w }) (ways_between c a b)) [])) [
-      | true ↦ sym (flat_map-map line_text (λ (w : Way). record { from = a; to = b; way = w }) (ways_between c a b))
+text_of_pair : (form : Form) (pairs : Pairs) (c : Config) (a b : Network) → pair_in form pairs c a b ≡ flat_map (line_in form c) (pair_lines pairs c a b)
+text_of_pair form pairs c a b =
+    elim (is_asked pairs a b) as (λ q. cond q (flat_map (way_in form c a.name b.name) (ways_between c a b)) []
+    ≡ flat_map (line_in form c) (cond q (map (λ (w : Way). record { from = a; to = b; way = w }) (ways_between c a b)) [])) [
+      | true ↦ sym (flat_map-map (line_in form c) (λ (w : Way). record { from = a; to = b; way = w }) (ways_between c a b))
       | false ↦ refl
     ]
 
-pub text_of_lines : (pairs : Pairs) (c : Config) → ways_text pairs c ≡ flat_map line_text (lines_of pairs c)
-unfolding ways_text
-text_of_lines pairs c =
-    joined_texts line_text (network_lines pairs c) (network_text pairs c)
-    (λ a. joined_texts line_text (pair_lines pairs c a) (pair_text pairs c a) (text_of_pair pairs c a) c.networks) c.networks
+pub text_of_lines : (form : Form) (pairs : Pairs) (c : Config) → ways_in form pairs c ≡ flat_map (line_in form c) (lines_of pairs c)
+unfolding ways_in
+text_of_lines form pairs c =
+    joined_texts (line_in form c) (network_lines pairs c) (network_in form pairs c)
+    (λ a. joined_texts (line_in form c) (pair_lines pairs c a) (pair_in form pairs c a) (text_of_pair form pairs c a) c.networks) c.networks
 
 -- what is asked for
 
@@ -147,14 +158,27 @@ is_told pairs c a b t d passage h between =
       goes = found.goes;
     }
 
+-- what lines of JSON read as
+
+pub line_reads : (t : Topology) (pairs : Pairs) (c : Config) → has_config_form c ≡ true → first_broken t c ≡ None → (line : Line)
+    → Contains (lines_of pairs c) line → IsReadBack (line_value c line)
+line_reads t pairs c form valid line at =
+    let first = joined_is (network_lines pairs c) c.networks line at in
+    let second = joined_is (pair_lines pairs c first.0) c.networks line first.2 in
+    let pair = pair_is pairs c first.0 second.0 line second.2 in
+    let from_named = (network_form c first.0 form first.1).name in
+    let to_named = (network_form c second.0 form second.1).name in
+    way_reads c line.from.name line.to.name line.way form (subst (λ (n : Network). is_name n.name ≡ true) (sym pair.1.from) from_named)
+    (subst (λ (n : Network). is_name n.name ≡ true) (sym pair.1.to) to_named) (way_sized t c first.0 second.0 line.way form valid pair.1.way)
+
 -- the input
 
 -- a valid configuration was read, and its ways are the text
-pub record IsGood (pairs : Pairs) (octets : List ℕ) : Type 0 where
+pub record IsGood (form : Form) (pairs : Pairs) (octets : List ℕ) : Type 0 where
   pub input : CompileInput
   pub written : IsWrittenIn octets input
   pub valid : first_broken input.topology input.config ≡ None
-  pub is : ways_answer pairs octets ≡ judged (answer_good (ways_text pairs input.config))
+  pub is : ways_answer form pairs octets ≡ judged (answer_good (ways_in form pairs input.config))
 
 by_answer : (broken missing : Option Refusal) (text : List ℕ) → IsAnswer (answer_unless broken (judged (answer_checked missing text))).verdict
     → (broken ≡ None) × (answer_unless broken (judged (answer_checked missing text)) ≡ judged (answer_good text))
@@ -162,29 +186,30 @@ by_answer (Some r) missing text h = absurd h
 by_answer None (Some r) text h = absurd h
 by_answer None None text h = (refl, refl)
 
-by_reading : (pairs : Pairs) (octets : List ℕ) (d : Data) → json_of octets ≡ Some d → (r : Result CompileInput Fault) → compile_at [] d ≡ r
-    → ways_answer pairs octets ≡ ways_reading pairs r → IsAnswer (ways_reading pairs r).verdict → IsGood pairs octets
-by_reading pairs octets d e (Err f) read is h = absurd h
-by_reading pairs octets d e (Ok p) read is h =
-    let parts = by_answer (first_broken p.topology p.config) (missing_of pairs p.config) (ways_text pairs p.config) h in
+by_reading : (form : Form) (pairs : Pairs) (octets : List ℕ) (d : Data) → json_of octets ≡ Some d → (r : Result CompileInput Fault) → compile_at [] d ≡ r
+    → ways_answer form pairs octets ≡ ways_reading form pairs r → IsAnswer (ways_reading form pairs r).verdict → IsGood form pairs octets
+by_reading form pairs octets d e (Err f) read is h = absurd h
+by_reading form pairs octets d e (Ok p) read is h =
+    let parts = by_answer (first_broken p.topology p.config) (missing_of pairs p.config) (ways_in form pairs p.config) h in
     record { input = p; written = (d, e, read); valid = parts.0; is = is ∙ parts.1 }
 
-by_json : (pairs : Pairs) (octets : List ℕ) (o : Option Data) → json_of octets ≡ o → ways_answer pairs octets ≡ of_json (ways_value pairs) o
-    → IsAnswer (of_json (ways_value pairs) o).verdict → IsGood pairs octets
+by_json : (form : Form) (pairs : Pairs) (octets : List ℕ) (o : Option Data) → json_of octets ≡ o → ways_answer form pairs octets ≡ of_json (ways_value form pairs) o
+    → IsAnswer (of_json (ways_value form pairs) o).verdict → IsGood form pairs octets
 unfolding ways_value
-by_json pairs octets None e is h = absurd h
-by_json pairs octets (Some d) e is h = by_reading pairs octets d e (compile_at [] d) refl is h
+by_json form pairs octets None e is h = absurd h
+by_json form pairs octets (Some d) e is h = by_reading form pairs octets d e (compile_at [] d) refl is h
 
-is_good : (pairs : Pairs) (octets : List ℕ) → IsAnswer (ways_answer pairs octets).verdict → IsGood pairs octets
+is_good : (form : Form) (pairs : Pairs) (octets : List ℕ) → IsAnswer (ways_answer form pairs octets).verdict → IsGood form pairs octets
 unfolding ways_answer
-is_good pairs octets h = by_json pairs octets (json_of octets) refl refl h
+is_good form pairs octets h = by_json form pairs octets (json_of octets) refl refl h
 
-pub took_ways : (pairs : Pairs) (octets : List ℕ) (verdict : Verdict) (old new : Option (List ℕ)) → WasGiven (ways_answer pairs octets) verdict old new
-    → IsAnswer verdict → (status_of verdict ≡ Ended.Done) × TookWays pairs octets old new
-took_ways pairs octets verdict old new given answers =
-    let good = is_good pairs octets (subst IsAnswer given.is answers) in
-    let same : (ways_answer pairs octets).text ≡ flat_map line_text (lines_of pairs good.input.config) =
-    ap (λ (a : Answer). a.text) good.is ∙ text_of_lines pairs good.input.config in
+pub took_ways : (form : Form) (pairs : Pairs) (octets : List ℕ) (verdict : Verdict) (old new : Option (List ℕ)) → WasGiven (ways_answer form pairs octets) verdict old new
+    → (IsAnswer verdict → AreWrittenInForm octets) → IsAnswer verdict → (status_of verdict ≡ Ended.Done) × TookWays form pairs octets old new
+took_ways form pairs octets verdict old new given of_form answers =
+    let good = is_good form pairs octets (subst IsAnswer given.is answers) in
+    let formed : has_config_form good.input.config ≡ true = in_form (compile_at []) (λ p. p.config) octets good.written.0 good.input (of_form answers) good.written.1 good.written.2 in
+    let same : (ways_answer form pairs octets).text ≡ flat_map (line_in form good.input.config) (lines_of pairs good.input.config) =
+    ap (λ (a : Answer). a.text) good.is ∙ text_of_lines form pairs good.input.config in
     let verdict_is : verdict ≡ Good = given.is ∙ ap (λ (a : Answer). a.verdict) good.is in (
       ap status_of verdict_is,
       record {
@@ -195,5 +220,12 @@ took_ways pairs octets verdict old new given answers =
         taken = subst (λ (t : List ℕ). Appends old new t) same given.taken;
         exact = λ a b t d passage h. (told pairs good.input.config a b t d passage h, is_told pairs good.input.config a b t d passage h);
         apart = on_one_at_most good.input.config;
+        reads = line_reads good.input.topology pairs good.input.config formed good.valid;
       },
     )
+
+pub ways_kept : {E : Type 0} (r : Result Verdict E) (form : Form) (pairs : Pairs) (octets : List ℕ) (old new : Option (List ℕ))
+    → IfOk r (λ verdict. WasGiven (ways_answer form pairs octets) verdict old new) → IfOk r (λ verdict. IsAnswer verdict → AreWrittenInForm octets)
+    → IfOk r (λ verdict. IsAnswer verdict → (status_of verdict ≡ Ended.Done) × TookWays form pairs octets old new)
+ways_kept (Ok verdict) form pairs octets old new given of_form = took_ways form pairs octets verdict old new given of_form
+ways_kept (Err e) form pairs octets old new given of_form = tt

@@ -19,10 +19,11 @@ use Rattle.compile_answers.specs.declared.unfit.Unfit.{Unfit}
 use Rattle.compile_answers.specs.declared.unfit.Unfit.TheVariants as unfit
 use Rattle.hitless_answers.specs.Answers.{hitless_answer}
 use Rattle.inspect_answers.specs.Expectations.{ExpectInput, Expectation, expect_at}
-use Rattle.inspect_answers.specs.Expecting.{all_met, expect_text}
-use Rattle.inspect_answers.specs.Explained.{why_text}
-use Rattle.inspect_answers.specs.IdleLines.{idle_text}
-use Rattle.inspect_changes.specs.Lines.{ways_text}
+use Rattle.inspect_answers.specs.Expecting.{all_met, expect_in}
+use Rattle.inspect_answers.specs.Explained.{why_in}
+use Rattle.inspect_answers.specs.IdleLines.{idle_in}
+use Rattle.inspect_json.specs.WayLines.{ways_in}
+use Rattle.inspect_json.specs.declared.form.Form.{Form}
 use Rattle.inspect_answers.specs.declared.asked.Asked.{Asked}
 use Rattle.inspect_answers.specs.declared.asked.Asked.TheVariants as Asks
 use Rattle.inspect_changes.specs.declared.pairs.Pairs.{Pairs}
@@ -88,73 +89,74 @@ missing_of All c = None
 missing_of (Between from to) c = first_missing (missing c from) (missing c to)
 
 -- the ways of a configuration that is valid
-abbrev pub valid_answer : Pairs → Config → Answer
-valid_answer pairs c = judged (answer_checked (missing_of pairs c) (ways_text pairs c))
+abbrev pub valid_answer : Form → Pairs → Config → Answer
+valid_answer form pairs c = judged (answer_checked (missing_of pairs c) (ways_in form pairs c))
 
 -- of a topology and a configuration that were read, or not
-abbrev pub ways_reading : Pairs → Result CompileInput Fault → Answer
-ways_reading pairs (Err f) = judged (answer_bad f)
-ways_reading pairs (Ok p) = answer_unless (first_broken p.topology p.config) (valid_answer pairs p.config)
+abbrev pub ways_reading : Form → Pairs → Result CompileInput Fault → Answer
+ways_reading form pairs (Err f) = judged (answer_bad f)
+ways_reading form pairs (Ok p) = answer_unless (first_broken p.topology p.config) (valid_answer form pairs p.config)
 
 -- of a value
-unfoldable pub ways_value : Pairs → Data → Answer
-ways_value pairs d = ways_reading pairs (compile_at [] d)
+unfoldable pub ways_value : Form → Pairs → Data → Answer
+ways_value form pairs d = ways_reading form pairs (compile_at [] d)
 
 -- what `inspect ways` answers to a document
-unfoldable pub ways_answer : Pairs → List ℕ → Answer
-ways_answer pairs octets = of_json (ways_value pairs) (json_of octets)
+unfoldable pub ways_answer : Form → Pairs → List ℕ → Answer
+ways_answer form pairs octets = of_json (ways_value form pairs) (json_of octets)
 
 -- what is expected of packets is met by each, or not
-abbrev pub expected_answer : Config → List Expectation → Answer
-expected_answer c packets = record {
+abbrev pub expected_answer : Form → Config → List Expectation → Answer
+expected_answer form c packets = record {
   verdict = if all_met c packets then Good else Differs;
-  text = expect_text c packets;
+  text = expect_in form c packets;
 }
 
 -- of what was read for `expect`, or not
-abbrev pub expect_reading : Result ExpectInput Fault → Answer
-expect_reading (Err f) = judged (answer_bad f)
-expect_reading (Ok r) = answer_unless (first_broken r.input.topology r.input.config) (expected_answer r.input.config r.packets)
+abbrev pub expect_reading : Form → Result ExpectInput Fault → Answer
+expect_reading form (Err f) = judged (answer_bad f)
+expect_reading form (Ok r) =
+    answer_unless (first_broken r.input.topology r.input.config) (expected_answer form r.input.config r.packets)
 
 -- of a value
-unfoldable pub expect_value : Data → Answer
-expect_value d = expect_reading (expect_at [] d)
+unfoldable pub expect_value : Form → Data → Answer
+expect_value form d = expect_reading form (expect_at [] d)
 
 -- what `inspect expect` answers to a document
-unfoldable pub expect_answer : List ℕ → Answer
-expect_answer octets = of_json expect_value (json_of octets)
+unfoldable pub expect_answer : Form → List ℕ → Answer
+expect_answer form octets = of_json (expect_value form) (json_of octets)
 
 -- what decides nothing, or is not in use, of what was read for `unused`, or not
-abbrev pub unused_reading : Result CompileInput Fault → Answer
-unused_reading (Err f) = judged (answer_bad f)
-unused_reading (Ok p) = answer_unless (first_broken p.topology p.config) (judged (answer_good (idle_text p.config)))
+abbrev pub unused_reading : Form → Result CompileInput Fault → Answer
+unused_reading form (Err f) = judged (answer_bad f)
+unused_reading form (Ok p) = answer_unless (first_broken p.topology p.config) (judged (answer_good (idle_in form p.config)))
 
 -- of a value
-unfoldable pub unused_value : Data → Answer
-unused_value d = unused_reading (compile_at [] d)
+unfoldable pub unused_value : Form → Data → Answer
+unused_value form d = unused_reading form (compile_at [] d)
 
 -- what `inspect unused` answers to a document
-unfoldable pub unused_answer : List ℕ → Answer
-unused_answer octets = of_json unused_value (json_of octets)
+unfoldable pub unused_answer : Form → List ℕ → Answer
+unused_answer form octets = of_json (unused_value form) (json_of octets)
 
 -- what becomes of packets, and what that comes of, of what was read for `why`, or not
-abbrev pub why_reading : Result ReachInput Fault → Answer
-why_reading (Err f) = judged (answer_bad f)
-why_reading (Ok r) =
-    answer_unless (first_broken r.input.topology r.input.config) (judged (answer_good (why_text r.input.config r.packets)))
+abbrev pub why_reading : Form → Result ReachInput Fault → Answer
+why_reading form (Err f) = judged (answer_bad f)
+why_reading form (Ok r) =
+    answer_unless (first_broken r.input.topology r.input.config) (judged (answer_good (why_in form r.input.config r.packets)))
 
 -- of a value
-unfoldable pub why_value : Data → Answer
-why_value d = why_reading (reach_at [] d)
+unfoldable pub why_value : Form → Data → Answer
+why_value form d = why_reading form (reach_at [] d)
 
 -- what `inspect why` answers to a document
-unfoldable pub why_answer : List ℕ → Answer
-why_answer octets = of_json why_value (json_of octets)
+unfoldable pub why_answer : Form → List ℕ → Answer
+why_answer form octets = of_json (why_value form) (json_of octets)
 
 -- what is answered to a document
 abbrev pub answer : Asked → List ℕ → Answer
-answer (Asks.Ways pairs) octets = ways_answer pairs octets
-answer Asks.Expect octets = expect_answer octets
-answer Asks.Unused octets = unused_answer octets
-answer Asks.Why octets = why_answer octets
-answer Asks.Hitless octets = judged (hitless_answer octets)
+answer (Asks.Ways form pairs) octets = ways_answer form pairs octets
+answer (Asks.Expect form) octets = expect_answer form octets
+answer (Asks.Unused form) octets = unused_answer form octets
+answer (Asks.Why form) octets = why_answer form octets
+answer (Asks.Hitless form) octets = judged (hitless_answer form octets)

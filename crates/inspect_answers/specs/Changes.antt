@@ -13,6 +13,10 @@ use Rattle.config_check.specs.Rules.{first_broken}
 use Rattle.policy_regions.specs.Parts.{IsTuple}
 use Rattle.inspect_changes.specs.Deliveries.{GoesBetween, delivery_in}
 use Rattle.inspect_changes.specs.DifferenceLines.{lists_text}
+use Rattle.inspect_json.specs.ChangeLines.{lists_in}
+use Rattle.inspect_json.specs.ChangeValues.{came_value, difference_value, went_value}
+use Rattle.inspect_json.specs.Form.{IsReadBack}
+use Rattle.inspect_json.specs.declared.form.Form.{Form}
 use Rattle.inspect_changes.specs.Fates.{passage}
 use Rattle.inspect_changes.specs.Objects.{objects_of}
 use Rattle.inspect_answers.specs.Promise.{IsWrittenIn}
@@ -38,11 +42,12 @@ pub record IsValidIn (octets : List ℕ) (v : Checked) : Type 0 where
 abbrev pub AreGone : List Object → Checked → Checked → Type 0
 AreGone went v w = (o : Object) → Contains went o ↔ (Contains (objects_of v.config) o × ¬ Contains (objects_of w.config) o)
 
--- two inputs have valid configurations, and these lines were taken: of the objects that one of the two has alone, and of
--- differences. Where no line of what went names a packet's networks and ports, whether it is delivered to its port, or by
+-- two inputs have valid configurations, and these lines were taken, in the form that is asked for: of the objects that one of
+-- the two has alone, and of differences. Where no line of what went names a packet's networks and ports, whether it is delivered to its port, or by
 -- which services, differs exactly where a line of its networks holds it; then it was delivered as that line says, and is;
--- no two lines of two networks hold one packet; and the run ends so where there is no line, and so where there is one
-pub record TookDifferences (status : Status) (first second : List ℕ) (old new : Option (List ℕ)) : Type 0 where
+-- no two lines of two networks hold one packet; the run ends so where there is no line, and so where there is one; and the JSON
+-- of each line reads as what it says
+pub record TookDifferences (form : Form) (status : Status) (first second : List ℕ) (old new : Option (List ℕ)) : Type 0 where
   pub before : Checked
   pub after : Checked
   pub before_read : IsValidIn first before
@@ -50,7 +55,7 @@ pub record TookDifferences (status : Status) (first second : List ℕ) (old new 
   pub went : List Object
   pub came : List Object
   pub lines : List Difference
-  pub taken : Appends old new (lists_text went came lines)
+  pub taken : Appends old new (lists_in form before.config after.config went came lines)
   pub went_exact : AreGone went before after
   pub came_exact : AreGone came after before
   pub exact : (p : Packet) (a b : Network) (number : ℕ) → GoesBetween before.config p a b number → IsUnnamed went before.config p a b number
@@ -61,3 +66,6 @@ pub record TookDifferences (status : Status) (first second : List ℕ) (old new 
   pub apart : (from to : List ℕ) (t : Tuple) (x y : Difference) → IsTuple t → IsOnLine lines from to t x → IsOnLine lines from to t y → x ≡ y
   pub alike : (status ≡ Ended.Done) ↔ (lists_text went came lines ≡ [])
   pub otherwise : (status ≡ Ended.Differs) ↔ (lists_text went came lines ≢ [])
+  pub went_reads : (o : Object) → Contains went o → IsReadBack (went_value before.config o)
+  pub came_reads : (o : Object) → Contains came o → IsReadBack (came_value after.config o)
+  pub reads : (x : Difference) → Contains lines x → IsReadBack (difference_value before.config after.config x)

@@ -13,6 +13,8 @@ use Rattle.compile_answers.specs.Answers.{DocumentAnswer, answer_bad, answer_goo
 use Rattle.compile_answers.specs.declared.unfit.Reception.{Reception}
 use Rattle.compile_answers.specs.declared.unfit.Reception.TheVariants.{Good}
 use Rattle.inspect_changes.specs.DifferenceLines.{diff_text}
+use Rattle.inspect_json.specs.ChangeLines.{diff_in}
+use Rattle.inspect_json.specs.declared.form.Form.{Form}
 use Rattle.inspect_answers.specs.declared.diffing.Comparison.{Comparison}
 use Rattle.inspect_answers.specs.declared.diffing.Comparison.TheVariants as Found
 
@@ -37,6 +39,10 @@ to_document answer octets = of_json (to_value answer) (json_of octets)
 abbrev pub diff_answer : List ℕ → List ℕ → DocumentAnswer
 diff_answer before after = to_document (λ c. to_document (λ d. answer_good (diff_text c d)) after) before
 
+-- the same, with the lines in the form that is asked for
+abbrev pub diff_answer_in : Form → List ℕ → List ℕ → DocumentAnswer
+diff_answer_in form before after = to_document (λ c. to_document (λ d. answer_good (diff_in form c d)) after) before
+
 -- what two documents are found to be says whether a text has a line
 abbrev pub SaysWhether : Comparison → List ℕ → Type 0
 SaysWhether Found.Same text = text ≡ []
@@ -51,10 +57,10 @@ Tells Found.Differs answer = (answer.verdict ≡ Good) × (answer.text ≢ [])
 Tells (Found.UnfitBefore reception) answer = (answer.verdict ≡ reception) × (reception ≢ Good)
 Tells (Found.UnfitAfter reception) answer = (answer.verdict ≡ reception) × (reception ≢ Good)
 
--- what was found was told by an answer, whose text was taken whole
-pub record WasSaid (answer : DocumentAnswer) (found : Comparison) (old new : Option (List ℕ)) : Type 0 where
+-- what was found was told by an answer, and its text taken whole in the form of another
+pub record WasSaid (answer formed : DocumentAnswer) (found : Comparison) (old new : Option (List ℕ)) : Type 0 where
   pub tells : Tells found answer
-  pub taken : Appends old new answer.text
+  pub taken : Appends old new formed.text
 
 abbrev pub IsOfBefore : Comparison → Type 0
 IsOfBefore (Found.UnfitBefore reception) = ⊤

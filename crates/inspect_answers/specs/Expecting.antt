@@ -12,6 +12,10 @@ use Rattle.ov_types.specs.declared.packet.Why.TheVariants as Reason
 use Rattle.config_types.specs.declared.config.Config.{Config}
 use Rattle.reach_plain.specs.Reachability.{reachability}
 use Rattle.inspect_changes.specs.Report.Outcomes.{services_text, why_text}
+use Rattle.inspect_json.specs.Form.{json_line}
+use Rattle.inspect_json.specs.declared.form.Form.{Form}
+use Rattle.inspect_json.specs.declared.form.Form.TheVariants.{Text, Json}
+use Rattle.inspect_answers.specs.ExpectValues.{counts_value, unmet_value}
 use Rattle.inspect_answers.specs.Expectations.{Expectation}
 use Rattle.inspect_answers.specs.declared.expectation.Expected.{Expected}
 use Rattle.inspect_answers.specs.declared.expectation.Expected.TheVariants.{Dropped, NoSourcePort, NoDestination, NoRoute, Denied, Delivered}
@@ -61,14 +65,19 @@ unfoldable pub unmet_line : ℕ → Expected → Outcome → List ℕ
 unmet_line n expected outcome =
     decimal n ++ (codes " expected " ++ (expected_text expected ++ (codes " but " ++ (outcome_text outcome ++ (10 ∷ [])))))
 
+-- the same in the form that is asked for
+abbrev pub unmet_line_in : Form → Config → ℕ → Expected → Outcome → List ℕ
+unmet_line_in Text c n expected outcome = unmet_line n expected outcome
+unmet_line_in Json c n expected outcome = json_line (unmet_value c n expected outcome)
+
 -- the line of a packet of this number, where its outcome is otherwise
-abbrev pub unmet_text : Config → ℕ → Expectation → List ℕ
-unmet_text c n e = if comes_so c e then [] else unmet_line n e.expected (reachability c e.packet)
+abbrev pub unmet_in : Form → Config → ℕ → Expectation → List ℕ
+unmet_in form c n e = if comes_so c e then [] else unmet_line_in form c n e.expected (reachability c e.packet)
 
 -- the lines of packets, the first with a number
-abbrev pub unmet_from : Config → ℕ → List Expectation → List ℕ
-unmet_from c n [] = []
-unmet_from c n (e ∷ es) = unmet_text c n e ++ unmet_from c (n + 1) es
+abbrev pub unmet_from : Form → Config → ℕ → List Expectation → List ℕ
+unmet_from form c n [] = []
+unmet_from form c n (e ∷ es) = unmet_in form c n e ++ unmet_from form c (n + 1) es
 
 -- of how many packets the outcome is otherwise
 abbrev pub unmet_count : Config → List Expectation → ℕ
@@ -79,6 +88,11 @@ unfoldable pub counts_line : ℕ → ℕ → List ℕ
 counts_line packets otherwise =
     codes "packets " ++ (decimal packets ++ (codes " otherwise " ++ (decimal otherwise ++ (10 ∷ []))))
 
+-- the same in the form that is asked for
+abbrev pub counts_in : Form → ℕ → ℕ → List ℕ
+counts_in Text packets otherwise = counts_line packets otherwise
+counts_in Json packets otherwise = json_line (counts_value packets otherwise)
+
 -- what `inspect expect` writes of a valid configuration and of packets, which count from 1
-unfoldable pub expect_text : Config → List Expectation → List ℕ
-expect_text c packets = unmet_from c 1 packets ++ counts_line (length packets) (unmet_count c packets)
+unfoldable pub expect_in : Form → Config → List Expectation → List ℕ
+expect_in form c packets = unmet_from form c 1 packets ++ counts_in form (length packets) (unmet_count c packets)

@@ -7,6 +7,10 @@ use Rattle.inspect_changes.specs.Report.Lists.{list_text}
 use Rattle.inspect_rules.specs.Idle.{idle}
 use Rattle.inspect_rules.specs.declared.idle.Idle.{Idle}
 use Rattle.inspect_rules.specs.declared.idle.Idle.TheVariants.{Rule, Policy, Chain}
+use Rattle.inspect_json.specs.Form.{json_line}
+use Rattle.inspect_json.specs.IdleValues.{idle_value}
+use Rattle.inspect_json.specs.declared.form.Form.{Form}
+use Rattle.inspect_json.specs.declared.form.Form.TheVariants.{Text, Json}
 
 -- rules with commas between them, and `-` where there are none
 unfoldable pub rules_text : List RuleNo → List ℕ
@@ -31,6 +35,11 @@ idle_line (Rule rule before) = rule_line rule before
 idle_line (Policy name networks) = policy_line name networks
 idle_line (Chain name) = chain_line name
 
+-- the line of what is idle, in the form that is asked for
+abbrev pub idle_line_in : Form → Config → Idle → List ℕ
+idle_line_in Text c x = idle_line x
+idle_line_in Json c x = json_line (idle_value c x)
+
 -- what `inspect unused` writes of a valid configuration
-abbrev pub idle_text : Config → List ℕ
-idle_text c = flat_map idle_line (idle c)
+abbrev pub idle_in : Form → Config → List ℕ
+idle_in form c = flat_map (idle_line_in form c) (idle c)

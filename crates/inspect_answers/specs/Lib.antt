@@ -1,11 +1,13 @@
 pub mod Expectations
 pub mod ExpectDocuments
+pub mod ExpectValues
 pub mod Expecting
 pub mod IdleLines
 pub mod Explained
 pub mod Answers
 pub mod Differences
 pub mod Commands
+pub mod InForm
 pub mod Promise
 pub mod Unmet
 pub mod Unused

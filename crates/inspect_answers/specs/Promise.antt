@@ -13,12 +13,16 @@ use Rattle.config_check.specs.Rules.{first_broken}
 use Rattle.policy_rules.specs.declared.matching.Decision.{Decision}
 use Rattle.policy_regions.specs.Parts.{IsTuple}
 use Rattle.policy_regions.specs.Regions.{holds}
-use Rattle.inspect_changes.specs.Lines.{is_asked, way_line}
+use Rattle.inspect_changes.specs.Lines.{is_asked}
 use Rattle.inspect_changes.specs.Ways.{IsLetThrough, IsOnOneAtMost, ways_between}
 use Rattle.inspect_changes.specs.declared.pairs.Pairs.{Pairs}
 use Rattle.inspect_changes.specs.declared.pairs.Pairs.TheVariants.{All, Between}
 use Rattle.inspect_changes.specs.declared.way.Passage.{Passage}
 use Rattle.inspect_changes.specs.declared.way.Way.{Way}
+use Rattle.inspect_json.specs.Form.{IsReadBack}
+use Rattle.inspect_json.specs.Values.{way_value}
+use Rattle.inspect_json.specs.WayLines.{way_in}
+use Rattle.inspect_json.specs.declared.form.Form.{Form}
 
 -- a line: a way, with the network that it is from and the one that it is to
 pub record Line : Type 0 where
@@ -26,8 +30,12 @@ pub record Line : Type 0 where
   pub to : Network
   pub way : Way
 
-abbrev pub line_text : Line → List ℕ
-line_text l = way_line l.from.name l.to.name l.way
+abbrev pub line_in : Form → Config → Line → List ℕ
+line_in form c l = way_in form c l.from.name l.to.name l.way
+
+-- what a line of JSON says
+abbrev pub line_value : Config → Line → Data
+line_value c l = way_value c l.from.name l.to.name l.way
 
 -- the lines of two networks, where these are asked for
 abbrev pub pair_lines : Pairs → Config → Network → Network → List Line
@@ -66,14 +74,16 @@ pub record IsLetBetween (pairs : Pairs) (c : Config) (a b : Network) (t : Tuple)
 abbrev pub IsWrittenIn : List ℕ → CompileInput → Type 0
 IsWrittenIn octets p = (d : Data) × (json_of octets ≡ Some d) × (compile_at [] d ≡ Ok p)
 
--- the input has a valid configuration, and these lines of it were taken: one holds a tuple of a packet from one network to
--- another exactly where these are asked for and the rule that decides lets it through, with that rule and so
-pub record TookWays (pairs : Pairs) (octets : List ℕ) (old new : Option (List ℕ)) : Type 0 where
+-- the input has a valid configuration, and these lines of it were taken, in the form that is asked for: one holds a tuple of a
+-- packet from one network to another exactly where these are asked for and the rule that decides lets it through, with that
+-- rule and so; and the JSON of each line reads as what it says
+pub record TookWays (form : Form) (pairs : Pairs) (octets : List ℕ) (old new : Option (List ℕ)) : Type 0 where
   pub input : CompileInput
   pub written : IsWrittenIn octets input
   pub valid : first_broken input.topology input.config ≡ None
   pub lines : List Line
-  pub taken : Appends old new (flat_map line_text lines)
+  pub taken : Appends old new (flat_map (line_in form input.config) lines)
   pub exact : (a b : Network) (t : Tuple) (d : Decision) (passage : Passage) → IsTuple t
       → Tells lines a b t d passage ↔ IsLetBetween pairs input.config a b t d passage
   pub apart : (a b : Network) (t : Tuple) → IsTuple t → IsOnOneAtMost (ways_between input.config a b) t
+  pub reads : (line : Line) → Contains lines line → IsReadBack (line_value input.config line)

@@ -87,8 +87,8 @@ IsSilent _ = ⊥
 
 -- what is promised where what is asked is answered, by the status
 abbrev pub Keeps : Asked → Status → List ℕ → Option (List ℕ) → Option (List ℕ) → Type 0
-Keeps (Asks.Ways pairs) status octets old new = (status ≡ Ended.Done) × TookWays pairs octets old new
-Keeps Asks.Expect status octets old new = TookExpected status octets old new
-Keeps Asks.Unused status octets old new = (status ≡ Ended.Done) × TookUnused octets old new
-Keeps Asks.Why status octets old new = (status ≡ Ended.Done) × TookExplained octets old new
-Keeps Asks.Hitless status octets old new = (status ≡ Ended.Done) × TookJudgements octets old new
+Keeps (Asks.Ways form pairs) status octets old new = (status ≡ Ended.Done) × TookWays form pairs octets old new
+Keeps (Asks.Expect form) status octets old new = TookExpected form status octets old new
+Keeps (Asks.Unused form) status octets old new = (status ≡ Ended.Done) × TookUnused form octets old new
+Keeps (Asks.Why form) status octets old new = (status ≡ Ended.Done) × TookExplained form octets old new
+Keeps (Asks.Hitless form) status octets old new = (status ≡ Ended.Done) × TookJudgements form octets old new

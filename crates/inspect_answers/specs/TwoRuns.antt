@@ -4,7 +4,7 @@ use Rattle.compile_answers.specs.Answers.{DocumentAnswer}
 use Rattle.compile_answers.specs.declared.unfit.Reception.{Reception}
 use Rattle.compile_answers.specs.declared.unfit.Reception.TheVariants as Received
 use Rattle.inspect_answers.specs.Answers.{verdict_of}
-use Rattle.inspect_answers.specs.Differences.{diff_answer, found_alone}
+use Rattle.inspect_answers.specs.Differences.{diff_answer, diff_answer_in, found_alone}
 use Rattle.inspect_answers.specs.Runs.{status_of}
 use Rattle.inspect_answers.specs.declared.comparing.Which.{Which}
 use Rattle.inspect_answers.specs.declared.comparing.Which.TheVariants.{Before, After}
@@ -12,6 +12,7 @@ use Rattle.inspect_answers.specs.declared.diffing.Comparison.{Comparison}
 use Rattle.inspect_answers.specs.declared.diffing.Comparison.TheVariants as Found
 use Rattle.inspect_answers.specs.declared.top.Status.{Status}
 use Rattle.inspect_answers.specs.declared.top.Status.TheVariants as Ended
+use Rattle.inspect_json.specs.declared.form.Form.{Form}
 
 -- a fact of both inputs; nothing is said where a source does not tell
 abbrev pub OfBoth : Option (List ℕ) → Option (List ℕ) → (List ℕ → List ℕ → Type 0) → Type 0
@@ -47,9 +48,9 @@ AreAlike limit before after = AreFit limit before after × ((diff_answer before 
 abbrev pub AreOtherwise : ℕ → List ℕ → List ℕ → Type 0
 AreOtherwise limit before after = AreFit limit before after × ((diff_answer before after).text ≢ [])
 
--- the text is what is written of two inputs
-abbrev pub WritesOf : List ℕ → List ℕ → List ℕ → Type 0
-WritesOf before after text = text ≡ (diff_answer before after).text
+-- the text is what is written of two inputs, in the form that is asked for
+abbrev pub WritesOf : Form → List ℕ → List ℕ → List ℕ → Type 0
+WritesOf form before after text = text ≡ (diff_answer_in form before after).text
 
 -- the status tells what two documents are found to be
 abbrev pub status_found : Comparison → Status

@@ -1,12 +1,15 @@
 //! The answer to a document.
-ghost use Rattle.std.specs.Prelude.{◌≡◌, IfOk, IfErr, OnErr};
+ghost use Rattle.std.specs.Prelude.{◌≡◌, IfOk, IfErr, OnErr, [], OnOk};
 ghost use Rattle.serde_json.specs.View.{view};
 ghost use Rattle.ov_io.specs.Inputs.{TookFront};
 ghost use Rattle.ov_io.specs.Pieces.{HasWriteCause};
 ghost use Rattle.compile_answers.specs.Answers.{answer_good};
+ghost use Rattle.config_model.specs.Input.{compile_at};
+ghost use Rattle.inspect_answers.specs.InForm.{AreWrittenInForm, ReadsInForm};
 ghost use Rattle.inspect_answers.specs.Answers.{IsAnswer, IsUnfit, WasGiven, answer, judged, missing, missing_of};
 ghost use Rattle.inspect_answers.specs.Answers.{valid_answer, ways_answer, ways_value};
-ghost use Rattle.inspect_changes.specs.Lines.{ways_text};
+ghost use Rattle.inspect_json.specs.WayLines.{ways_in};
+ghost use Rattle.inspect_json.specs.declared.form.Form.{Form as LineForm};
 ghost use Rattle.inspect_answers.specs.Runs.{Keeps, status_of};
 
 use crate::asked::Asked;
@@ -21,6 +24,7 @@ use config_check::{Refusal, Valid, network_named};
 use config_model::{ReadRefusal, read_compile};
 use config_types::Config;
 use inspect_changes::Pairs;
+use inspect_json::Form;
 use ov_io::{Sink, WriteRefusal};
 use ov_json::value_of;
 use ov_types::{Name, NoMemory};
@@ -52,8 +56,9 @@ fn missing_of(pairs: &Pairs, config: &Config) -> Option<Refusal>
 
 /// A valid configuration that has the networks that are asked for.
 fn having(pairs: &Pairs, valid: Valid) -> Result<Valid, Unfit>
-    ensures fit { IfOk result (λ v. valid_answer pairs.now valid.config ≡ judged (answer_good (ways_text pairs.now v.config))) }
-    ensures unfit { IfErr result (λ unfit. IsUnfit unfit (valid_answer pairs.now valid.config)) }
+    ensures fit { (form : LineForm)
+        → IfOk result (λ v. valid_answer form pairs.now valid.config ≡ judged (answer_good (ways_in form pairs.now v.config))) }
+    ensures unfit { (form : LineForm) → IfErr result (λ unfit. IsUnfit unfit (valid_answer form pairs.now valid.config)) }
 {
     match missing_of(pairs, valid.config()) {
         Some(refusal) => Err(Unfit::Refused(refusal)),
@@ -64,9 +69,10 @@ fn having(pairs: &Pairs, valid: Valid) -> Result<Valid, Unfit>
 /// What is taken from a value.
 #[tactic(auto, using(crate::proofs::Unfitting::unfit_anyway), unfolding(crate::specs::Answers::ways_value))]
 fn ways_taken(alloc: Global, pairs: &Pairs, value: &Value) -> Result<Valid, Unfit>
-    ensures fit { IfOk result (λ valid. ways_value pairs.now (view value.now)
-        ≡ judged (answer_good (ways_text pairs.now valid.config))) }
-    ensures unfit { IfErr result (λ unfit. IsUnfit unfit (ways_value pairs.now (view value.now))) }
+    ensures fit { (form : LineForm) → IfOk result (λ valid. ways_value form pairs.now (view value.now)
+        ≡ judged (answer_good (ways_in form pairs.now valid.config))) }
+    ensures unfit { (form : LineForm) → IfErr result (λ unfit. IsUnfit unfit (ways_value form pairs.now (view value.now))) }
+    ensures in_form { OnOk result (ReadsInForm (compile_at []) (λ p. p.config) (view value.now)) }
 {
     match read_compile(alloc, value) {
         Ok(input) => match valid_of(alloc, input) {
@@ -79,11 +85,12 @@ fn ways_taken(alloc: Global, pairs: &Pairs, value: &Value) -> Result<Valid, Unfi
 }
 
 /// What is taken from an input.
-#[tactic(auto, unfolding(crate::specs::Answers::ways_answer))]
+#[tactic(auto, using(crate::proofs::Formed::are_where_ok), unfolding(crate::specs::Answers::ways_answer))]
 fn ways_asked(alloc: Global, pairs: &Pairs, octets: &[u8]) -> Result<Valid, Unfit>
-    ensures fit { IfOk result (λ valid. ways_answer pairs.now octets.now
-        ≡ judged (answer_good (ways_text pairs.now valid.config))) }
-    ensures unfit { IfErr result (λ unfit. IsUnfit unfit (ways_answer pairs.now octets.now)) }
+    ensures fit { (form : LineForm) → IfOk result (λ valid. ways_answer form pairs.now octets.now
+        ≡ judged (answer_good (ways_in form pairs.now valid.config))) }
+    ensures unfit { (form : LineForm) → IfErr result (λ unfit. IsUnfit unfit (ways_answer form pairs.now octets.now)) }
+    ensures in_form { OnOk result (AreWrittenInForm octets.now) }
 {
     match value_of(alloc, octets) {
         Ok(Some(value)) => ways_taken(alloc, pairs, &value),
@@ -93,21 +100,24 @@ fn ways_asked(alloc: Global, pairs: &Pairs, octets: &[u8]) -> Result<Valid, Unfi
 }
 
 /// Writes the ways that are asked for of an input.
+#[tactic(auto, using(crate::proofs::Formed::where_answered, crate::proofs::Formed::never_answered))]
 fn answer_ways<K: Sink>(
     alloc: Global,
+    form: Form,
     pairs: &Pairs,
     octets: &[u8],
     sink: &mut K,
 ) -> Result<Verdict, WriteRefusal>
-    ensures given { IfOk result (λ verdict. WasGiven (ways_answer pairs.now octets.now) verdict
+    ensures given { IfOk result (λ verdict. WasGiven (ways_answer form pairs.now octets.now) verdict
         (K.taken sink.old) (K.taken sink.new)) }
     ensures front { OnErr result (TookFront (K.taken sink.old) (K.taken sink.new)
-        (ways_answer pairs.now octets.now).text) }
+        (ways_answer form pairs.now octets.now).text) }
     ensures cause { HasWriteCause (K.faults sink.old) (K.faults sink.new) result }
+    ensures in_form { IfOk result (λ verdict. IsAnswer verdict → AreWrittenInForm octets.now) }
 {
     match ways_asked(alloc, pairs, octets) {
         Ok(valid) => {
-            write_all_ways(alloc, pairs, &valid, sink)?;
+            write_all_ways(alloc, form, pairs, &valid, sink)?;
             Ok(Verdict::Good)
         }
         Err(unfit) => answer_unfit(alloc, unfit, sink),
@@ -115,7 +125,6 @@ fn answer_ways<K: Sink>(
 }
 
 /// Writes what is answered to an input.
-#[tactic(auto, using(crate::proofs::Told::took_ways, crate::proofs::Taken::took_expected, crate::proofs::TookIdle::took_unused, crate::proofs::TookReasons::took_explained))]
 pub(crate) fn answer<K: Sink>(
     alloc: Global,
     asked: &Asked,
@@ -131,10 +140,10 @@ pub(crate) fn answer<K: Sink>(
         → Keeps asked.now (status_of verdict) octets.now (K.taken sink.old) (K.taken sink.new)) }
 {
     match asked {
-        Asked::Ways(pairs) => answer_ways(alloc, pairs, octets, sink),
-        Asked::Expect => answer_expect(alloc, octets, sink),
-        Asked::Unused => answer_unused(alloc, octets, sink),
-        Asked::Why => answer_why(alloc, octets, sink),
-        Asked::Hitless => answer_edits(alloc, octets, sink),
+        Asked::Ways(form, pairs) => answer_ways(alloc, *form, pairs, octets, sink),
+        Asked::Expect(form) => answer_expect(alloc, *form, octets, sink),
+        Asked::Unused(form) => answer_unused(alloc, *form, octets, sink),
+        Asked::Why(form) => answer_why(alloc, *form, octets, sink),
+        Asked::Hitless(form) => answer_edits(alloc, *form, octets, sink),
     }
 }

@@ -11,7 +11,7 @@ ghost use Rattle.inspect_answers.specs.Runs.{IsAnswered, IsCut, IsSilent, IsWrit
 ghost use Rattle.inspect_answers.specs.TwoRuns.{AreAlike, AreOtherwise, AreShort, IsEndOf, IsFoundOf, OfBoth, OfWhich};
 ghost use Rattle.inspect_answers.specs.TwoRuns.{WritesOf, status_found, which_found};
 
-use crate::asked::is_diff;
+use crate::asked::{form_of, is_diff};
 use crate::diffing::{Comparison, answer_diff};
 use crate::top::{MAX_INPUT_OCTETS, Status, status_from};
 use crate::verdict::verdict_of;
@@ -87,14 +87,15 @@ pub fn inspect_diff<S: Source, T: Source, K: Sink>(
 
     // What is written.
     ensures written { IsWritten result.status → OfBoth (S.left before.old) (T.left after.old)
-        (λ first second. TookText (WritesOf first second) (K.taken sink.old) (K.taken sink.new)) }
+        (λ first second. TookText (WritesOf (commands.form_of words.now) first second) (K.taken sink.old) (K.taken sink.new)) }
     ensures front { IsCut result.status → OfBoth (S.left before.old) (T.left after.old)
-        (λ first second. TookFrontOf (WritesOf first second) (K.taken sink.old) (K.taken sink.new)) }
+        (λ first second. TookFrontOf (WritesOf (commands.form_of words.now) first second) (K.taken sink.old) (K.taken sink.new)) }
     ensures silent { IsSilent result.status → sink.new ≡ sink.old }
 
     // What is promised of packets.
     ensures promise { IsAnswered result.status → OfBoth (S.left before.old) (T.left after.old)
-        (λ first second. TookDifferences result.status first second (K.taken sink.old) (K.taken sink.new)) }
+        (λ first second. TookDifferences (commands.form_of words.now) result.status first second
+        (K.taken sink.old) (K.taken sink.new)) }
 
     // What is read.
     ensures read_whole { IsWritten result.status ⊎ (result.status ≡ Status.WriteFault)
@@ -131,7 +132,8 @@ pub fn inspect_diff<S: Source, T: Source, K: Sink>(
         Err(InputRefusal::TooLong) => return ended(Status::TooLong, Which::After),
         Err(InputRefusal::NoMemory) => return ended(Status::NoMemory, Which::After),
     };
-    match answer_diff(alloc, first.as_slice(), second.as_slice(), sink) {
+    let form = form_of(words);
+    match answer_diff(alloc, form, first.as_slice(), second.as_slice(), sink) {
         Ok(found) => ending_of(found),
         Err(WriteRefusal::Fault) => ended(Status::WriteFault, Which::Before),
         Err(WriteRefusal::NoMemory) => ended(Status::NoMemory, Which::Before),

@@ -8,10 +8,11 @@ ghost use Rattle.config_types.specs.declared.config.Config.{Config as Configurat
 ghost use Rattle.compile_answers.specs.Answers.{DocumentAnswer, IsAnswered, answer_good};
 ghost use Rattle.inspect_answers.specs.Changes.{IsValidAs, IsValidIn, TookDifferences};
 ghost use Rattle.inspect_answers.specs.Differences.{IsOfAfter, IsOfBefore, IsWhich, IsWhichAfter, SaysWhether, WasSaid};
-ghost use Rattle.inspect_answers.specs.Differences.{diff_answer, to_document, to_value};
+ghost use Rattle.inspect_answers.specs.Differences.{diff_answer, diff_answer_in, to_document, to_value};
 ghost use Rattle.inspect_changes.specs.DifferenceLines.{diff_text, lists_text};
 ghost use Rattle.inspect_changes.specs.Fates.{all_differences};
 ghost use Rattle.inspect_changes.specs.Objects.{gone};
+ghost use Rattle.inspect_json.specs.ChangeLines.{diff_in, lists_in};
 ghost use Rattle.inspect_answers.specs.Runs.{IsAnswered as IsEndOfAnswer};
 ghost use Rattle.inspect_answers.specs.TwoRuns.{status_found};
 
@@ -19,9 +20,8 @@ use crate::writing::write_each;
 use compile_answers::{Reception, Unfit, valid_of, write_unfit};
 use config_check::Valid;
 use config_model::{ReadRefusal, read_compile};
-use inspect_changes::{
-    CameLines, Difference, DifferenceLines, Object, WentLines, all_differences, gone,
-};
+use inspect_changes::{Difference, Object, all_differences, gone};
+use inspect_json::{CameIn, DifferencesIn, Form, WentIn};
 use ov_io::{Sink, TextOut, WriteRefusal, write_gathered};
 use ov_json::value_of;
 use ov_types::NoMemory;
@@ -97,6 +97,7 @@ fn find(alloc: Global, before: &Valid, after: &Valid) -> Result<Found, NoMemory>
 /// Hands on the lines of what went, of what came, and of differences.
 fn write_lists<K: Sink>(
     alloc: Global,
+    lines: &DifferencesIn<'_>,
     went: &[Object],
     came: &[Object],
     differences: &[Difference],
@@ -104,27 +105,43 @@ fn write_lists<K: Sink>(
     gathered: &mut TextOut,
 ) -> Result<(), WriteRefusal>
     ensures ok { OnOk result (IsOnItsWay (K.taken sink.old) (K.taken sink.new) gathered.new []
-        (gathered.old ++ lists_text went.now came.now differences.now)) }
+        (gathered.old ++ lists_in lines.now.form lines.now.before.now lines.now.after.now went.now came.now differences.now)) }
     ensures front { OnErr result (TookFront (K.taken sink.old) (K.taken sink.new)
-        (gathered.old ++ lists_text went.now came.now differences.now)) }
+        (gathered.old ++ lists_in lines.now.form lines.now.before.now lines.now.after.now went.now came.now differences.now)) }
     ensures cause { HasWriteCause (K.faults sink.old) (K.faults sink.new) result }
 {
-    write_each(alloc, &WentLines, went, sink, gathered)?;
-    write_each(alloc, &CameLines, came, sink, gathered)?;
-    write_each(alloc, &DifferenceLines, differences, sink, gathered)
+    let went_lines = WentIn {
+        form: lines.form,
+        config: lines.before,
+    };
+    let came_lines = CameIn {
+        form: lines.form,
+        config: lines.after,
+    };
+    write_each(alloc, &went_lines, went, sink, gathered)?;
+    write_each(alloc, &came_lines, came, sink, gathered)?;
+    write_each(alloc, lines, differences, sink, gathered)
 }
 
 /// Writes what was found.
-fn write_found<K: Sink>(alloc: Global, found: &Found, sink: &mut K) -> Result<(), WriteRefusal>
+fn write_found<K: Sink>(
+    alloc: Global,
+    lines: &DifferencesIn<'_>,
+    found: &Found,
+    sink: &mut K,
+) -> Result<(), WriteRefusal>
     ensures ok { OnOk result (Appends (K.taken sink.old) (K.taken sink.new)
-        (lists_text found.now.went.items found.now.came.items found.now.differences.items)) }
+        (lists_in lines.now.form lines.now.before.now lines.now.after.now
+        found.now.went.items found.now.came.items found.now.differences.items)) }
     ensures front { OnErr result (TookFront (K.taken sink.old) (K.taken sink.new)
-        (lists_text found.now.went.items found.now.came.items found.now.differences.items)) }
+        (lists_in lines.now.form lines.now.before.now lines.now.after.now
+        found.now.went.items found.now.came.items found.now.differences.items)) }
     ensures cause { HasWriteCause (K.faults sink.old) (K.faults sink.new) result }
 {
     let mut gathered = TextOut::new(alloc);
     write_lists(
         alloc,
+        lines,
         &found.went,
         &found.came,
         &found.differences,
@@ -151,24 +168,30 @@ fn comparison_of(found: &Found) -> Comparison
 }
 
 /// Writes what differs between two valid configurations.
-#[tactic(auto, unfolding(inspect_changes::specs::DifferenceLines::diff_text), using(ov_io::proofs::PieceLemmas::took_nothing))]
+#[tactic(auto, unfolding(inspect_changes::specs::DifferenceLines::diff_text, inspect_json::specs::ChangeLines::diff_in), using(ov_io::proofs::PieceLemmas::took_nothing))]
 fn write_differences<K: Sink>(
     alloc: Global,
+    form: Form,
     before: &Valid,
     after: &Valid,
     sink: &mut K,
 ) -> Result<Comparison, WriteRefusal>
     ensures ok { OnOk result (Appends (K.taken sink.old) (K.taken sink.new)
-        (diff_text before.now.config after.now.config)) }
+        (diff_in form before.now.config after.now.config)) }
     ensures says { IfOk result (λ found. SaysWhether found (diff_text before.now.config after.now.config)) }
     ensures front { OnErr result (TookFront (K.taken sink.old) (K.taken sink.new)
-        (diff_text before.now.config after.now.config)) }
+        (diff_in form before.now.config after.now.config)) }
     ensures cause { HasWriteCause (K.faults sink.old) (K.faults sink.new) result }
     ensures promise { (first second : List ℕ) → IsValidIn first before.now → IsValidIn second after.now
-        → IfOk result (λ found. TookDifferences (status_found found) first second (K.taken sink.old) (K.taken sink.new)) }
+        → IfOk result (λ found. TookDifferences form (status_found found) first second (K.taken sink.old) (K.taken sink.new)) }
 {
     let found = find(alloc, before, after)?;
-    write_found(alloc, &found, sink)?;
+    let lines = DifferencesIn {
+        form,
+        before: before.config(),
+        after: after.config(),
+    };
+    write_found(alloc, &lines, &found, sink)?;
     Ok(comparison_of(&found))
 }
 
@@ -178,8 +201,8 @@ fn write_unfit_before<K: Sink>(
     unfit: Unfit,
     sink: &mut K,
 ) -> Result<Comparison, WriteRefusal>
-    ensures given { (answer : DocumentAnswer) → IsAnswered unfit answer
-        → IfOk result (λ found. WasSaid answer found (K.taken sink.old) (K.taken sink.new)) }
+    ensures given { (answer formed : DocumentAnswer) → IsAnswered unfit answer → IsAnswered unfit formed
+        → IfOk result (λ found. WasSaid answer formed found (K.taken sink.old) (K.taken sink.new)) }
     ensures front { (answer : DocumentAnswer) → IsAnswered unfit answer
         → OnErr result (TookFront (K.taken sink.old) (K.taken sink.new) answer.text) }
     ensures cause { HasWriteCause (K.faults sink.old) (K.faults sink.new) result }
@@ -196,8 +219,8 @@ fn write_unfit_after<K: Sink>(
     unfit: Unfit,
     sink: &mut K,
 ) -> Result<Comparison, WriteRefusal>
-    ensures given { (answer : DocumentAnswer) → IsAnswered unfit answer
-        → IfOk result (λ found. WasSaid answer found (K.taken sink.old) (K.taken sink.new)) }
+    ensures given { (answer formed : DocumentAnswer) → IsAnswered unfit answer → IsAnswered unfit formed
+        → IfOk result (λ found. WasSaid answer formed found (K.taken sink.old) (K.taken sink.new)) }
     ensures front { (answer : DocumentAnswer) → IsAnswered unfit answer
         → OnErr result (TookFront (K.taken sink.old) (K.taken sink.new) answer.text) }
     ensures cause { HasWriteCause (K.faults sink.old) (K.faults sink.new) result }
@@ -211,22 +234,24 @@ fn write_unfit_after<K: Sink>(
 /// Writes what is answered to a document that is compared with a valid configuration before.
 fn answer_after<K: Sink>(
     alloc: Global,
+    form: Form,
     before: &Valid,
     after: &[u8],
     sink: &mut K,
 ) -> Result<Comparison, WriteRefusal>
     ensures given { IfOk result (λ found. WasSaid
-        (to_document (λ d. answer_good (diff_text before.now.config d)) after.now) found
+        (to_document (λ d. answer_good (diff_text before.now.config d)) after.now)
+        (to_document (λ d. answer_good (diff_in form before.now.config d)) after.now) found
         (K.taken sink.old) (K.taken sink.new)) }
     ensures which { IfOk result (λ found. IsWhichAfter found after.now) }
     ensures front { OnErr result (TookFront (K.taken sink.old) (K.taken sink.new)
-        (to_document (λ d. answer_good (diff_text before.now.config d)) after.now).text) }
+        (to_document (λ d. answer_good (diff_in form before.now.config d)) after.now).text) }
     ensures cause { HasWriteCause (K.faults sink.old) (K.faults sink.new) result }
     ensures promise { (first : List ℕ) → IsValidIn first before.now → IfOk result (λ found. IsEndOfAnswer (status_found found)
-        → TookDifferences (status_found found) first after.now (K.taken sink.old) (K.taken sink.new)) }
+        → TookDifferences form (status_found found) first after.now (K.taken sink.old) (K.taken sink.new)) }
 {
     match valid_from(alloc, after) {
-        Ok(valid) => write_differences(alloc, before, &valid, sink),
+        Ok(valid) => write_differences(alloc, form, before, &valid, sink),
         Err(unfit) => write_unfit_after(alloc, unfit, sink),
     }
 }
@@ -235,21 +260,22 @@ fn answer_after<K: Sink>(
 /// the one line of the first of them that is not fit.
 pub(crate) fn answer_diff<K: Sink>(
     alloc: Global,
+    form: Form,
     before: &[u8],
     after: &[u8],
     sink: &mut K,
 ) -> Result<Comparison, WriteRefusal>
-    ensures given { IfOk result (λ found. WasSaid (diff_answer before.now after.now) found
+    ensures given { IfOk result (λ found. WasSaid (diff_answer before.now after.now) (diff_answer_in form before.now after.now) found
         (K.taken sink.old) (K.taken sink.new)) }
     ensures which { IfOk result (λ found. IsWhich found before.now after.now) }
     ensures front { OnErr result (TookFront (K.taken sink.old) (K.taken sink.new)
-        (diff_answer before.now after.now).text) }
+        (diff_answer_in form before.now after.now).text) }
     ensures cause { HasWriteCause (K.faults sink.old) (K.faults sink.new) result }
     ensures promise { IfOk result (λ found. IsEndOfAnswer (status_found found)
-        → TookDifferences (status_found found) before.now after.now (K.taken sink.old) (K.taken sink.new)) }
+        → TookDifferences form (status_found found) before.now after.now (K.taken sink.old) (K.taken sink.new)) }
 {
     match valid_from(alloc, before) {
-        Ok(valid) => answer_after(alloc, &valid, after, sink),
+        Ok(valid) => answer_after(alloc, form, &valid, after, sink),
         Err(unfit) => write_unfit_before(alloc, unfit, sink),
     }
 }

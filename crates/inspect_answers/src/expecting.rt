@@ -1,13 +1,16 @@
 //! The answer of `expect`.
-ghost use Rattle.std.specs.Prelude.{◌≡◌, ◌≤◌, ◌∷◌, ◌++◌, [], length, IfOk, IfErr, OnErr};
+ghost use Rattle.std.specs.Prelude.{◌≡◌, ◌≤◌, ◌∷◌, ◌++◌, [], length, IfOk, IfErr, OnErr, OnOk};
 ghost use Rattle.std.specs.Io.KnownBytes.{Appends};
 ghost use Rattle.serde_json.specs.View.{view};
 ghost use Rattle.ov_io.specs.Inputs.{TookFront};
 ghost use Rattle.ov_io.specs.Pieces.{HasWriteCause, IsOnItsWay};
-ghost use Rattle.inspect_answers.specs.Answers.{IsUnfit, WasGiven, expect_answer, expect_value, expected_answer};
+ghost use Rattle.inspect_answers.specs.Expectations.{expect_at};
+ghost use Rattle.inspect_answers.specs.InForm.{AreExpectedInForm, ReadsInForm};
+ghost use Rattle.inspect_answers.specs.Answers.{IsAnswer, IsUnfit, WasGiven, expect_answer, expect_value, expected_answer};
 ghost use Rattle.inspect_answers.specs.Expecting as expecting;
-ghost use Rattle.inspect_answers.specs.Expecting.{counts_line, drop_is_met, expect_text, unmet_count};
-ghost use Rattle.inspect_answers.specs.Expecting.{unmet_from, unmet_text};
+ghost use Rattle.inspect_answers.specs.Expecting.{counts_in, drop_is_met, expect_in, unmet_count};
+ghost use Rattle.inspect_answers.specs.Expecting.{unmet_from, unmet_in};
+ghost use Rattle.inspect_json.specs.declared.form.Form.{Form as LineForm};
 
 use crate::expect_lines::{CountsLines, UnmetLines};
 use crate::expect_reader::read_expect;
@@ -16,6 +19,7 @@ use crate::verdict::{Verdict, answer_unfit};
 use compile_answers::{Unfit, valid_of, write_one};
 use config_check::Valid;
 use config_model::ReadRefusal;
+use inspect_json::Form;
 use ov_io::{Sink, TextOut, WriteRefusal, write_gathered};
 use ov_json::value_of;
 use ov_types::{Items, NoMemory, Outcome, Why};
@@ -58,6 +62,7 @@ fn is_met(expected: &Expected, outcome: &Outcome) -> bool
 #[tactic(auto, using(ov_io::proofs::PieceLemmas::way_stays))]
 fn write_unmet<K: Sink>(
     alloc: Global,
+    form: Form,
     number: usize,
     valid: &Valid,
     expectation: &Expectation,
@@ -67,9 +72,9 @@ fn write_unmet<K: Sink>(
     ensures count { IfOk result (λ count. count ≡ unmet_count valid.now.config (expectation.now ∷ [])) }
     ensures one { IfOk result (λ count. count ≤ 1) }
     ensures ok { IfOk result (λ count. IsOnItsWay (K.taken sink.old) (K.taken sink.new) gathered.new []
-        (gathered.old ++ unmet_text valid.now.config number expectation.now)) }
+        (gathered.old ++ unmet_in form valid.now.config number expectation.now)) }
     ensures front { OnErr result (TookFront (K.taken sink.old) (K.taken sink.new)
-        (gathered.old ++ unmet_text valid.now.config number expectation.now)) }
+        (gathered.old ++ unmet_in form valid.now.config number expectation.now)) }
     ensures cause { HasWriteCause (K.faults sink.old) (K.faults sink.new) result }
 {
     let expected = &expectation.expected;
@@ -79,7 +84,12 @@ fn write_unmet<K: Sink>(
     }
     write_one(
         alloc,
-        &UnmetLines { number, expected },
+        &UnmetLines {
+            form,
+            config: valid.config(),
+            number,
+            expected,
+        },
         &outcome,
         sink,
         gathered,
@@ -90,6 +100,7 @@ fn write_unmet<K: Sink>(
 /// Hands on the line of each packet whose outcome is otherwise than expected, in order, and counts these.
 fn write_each_unmet<K: Sink>(
     alloc: Global,
+    form: Form,
     valid: &Valid,
     packets: &[Expectation],
     sink: &mut K,
@@ -97,35 +108,37 @@ fn write_each_unmet<K: Sink>(
 ) -> Result<usize, WriteRefusal>
     ensures count { IfOk result (λ count. count ≡ unmet_count valid.now.config packets.now) }
     ensures ok { IfOk result (λ count. IsOnItsWay (K.taken sink.old) (K.taken sink.new) gathered.new []
-        (gathered.old ++ unmet_from valid.now.config 1 packets.now)) }
+        (gathered.old ++ unmet_from form valid.now.config 1 packets.now)) }
     ensures front { OnErr result (TookFront (K.taken sink.old) (K.taken sink.new)
-        (gathered.old ++ unmet_from valid.now.config 1 packets.now)) }
+        (gathered.old ++ unmet_from form valid.now.config 1 packets.now)) }
     ensures cause { HasWriteCause (K.faults sink.old) (K.faults sink.new) result }
 {
     let mut count = 0;
     for (index, expectation) in packets.iter().enumerate() {
-        count += write_unmet(alloc, index + 1, valid, expectation, sink, gathered)?;
+        count += write_unmet(alloc, form, index + 1, valid, expectation, sink, gathered)?;
     }
     Ok(count)
 }
 
 /// Writes which packets have another outcome than is expected, and says whether one has.
-#[tactic(auto, unfolding(crate::specs::Expecting::expect_text))]
+#[tactic(auto, unfolding(crate::specs::Expecting::expect_in))]
 fn write_expected<K: Sink>(
     alloc: Global,
+    form: Form,
     valid: &Valid,
     packets: &[Expectation],
     sink: &mut K,
 ) -> Result<Verdict, WriteRefusal>
-    ensures given { IfOk result (λ verdict. WasGiven (expected_answer valid.now.config packets.now) verdict
+    ensures given { IfOk result (λ verdict. WasGiven (expected_answer form valid.now.config packets.now) verdict
         (K.taken sink.old) (K.taken sink.new)) }
     ensures front { OnErr result (TookFront (K.taken sink.old) (K.taken sink.new)
-        (expect_text valid.now.config packets.now)) }
+        (expect_in form valid.now.config packets.now)) }
     ensures cause { HasWriteCause (K.faults sink.old) (K.faults sink.new) result }
 {
     let mut gathered = TextOut::new(alloc);
-    let count = write_each_unmet(alloc, valid, packets, sink, &mut gathered)?;
+    let count = write_each_unmet(alloc, form, valid, packets, sink, &mut gathered)?;
     let lines = CountsLines {
+        form,
         packets: packets.len(),
     };
     write_one(alloc, &lines, &count, sink, &mut gathered)?;
@@ -147,9 +160,10 @@ struct Question {
 /// What `expect` takes from a value.
 #[tactic(auto, using(crate::proofs::Unfitting::unfit_anyway), unfolding(crate::specs::Answers::expect_value))]
 fn expect_taken(alloc: Global, value: &Value) -> Result<Question, Unfit>
-    ensures fit { IfOk result (λ asked. expect_value (view value.now)
-        ≡ expected_answer asked.valid.config asked.packets) }
-    ensures unfit { IfErr result (λ unfit. IsUnfit unfit (expect_value (view value.now))) }
+    ensures fit { (form : LineForm) → IfOk result (λ asked. expect_value form (view value.now)
+        ≡ expected_answer form asked.valid.config asked.packets) }
+    ensures unfit { (form : LineForm) → IfErr result (λ unfit. IsUnfit unfit (expect_value form (view value.now))) }
+    ensures in_form { OnOk result (ReadsInForm (expect_at []) (λ r. r.input.config) (view value.now)) }
 {
     match read_expect(alloc, value) {
         Ok(ExpectInput { input, packets }) => match valid_of(alloc, input) {
@@ -162,10 +176,12 @@ fn expect_taken(alloc: Global, value: &Value) -> Result<Question, Unfit>
 }
 
 /// What `expect` takes from an input.
-#[tactic(auto, unfolding(crate::specs::Answers::expect_answer))]
+#[tactic(auto, using(crate::proofs::Formed::are_where_ok), unfolding(crate::specs::Answers::expect_answer))]
 fn expect_asked(alloc: Global, octets: &[u8]) -> Result<Question, Unfit>
-    ensures fit { IfOk result (λ asked. expect_answer octets.now ≡ expected_answer asked.valid.config asked.packets) }
-    ensures unfit { IfErr result (λ unfit. IsUnfit unfit (expect_answer octets.now)) }
+    ensures fit { (form : LineForm)
+        → IfOk result (λ asked. expect_answer form octets.now ≡ expected_answer form asked.valid.config asked.packets) }
+    ensures unfit { (form : LineForm) → IfErr result (λ unfit. IsUnfit unfit (expect_answer form octets.now)) }
+    ensures in_form { OnOk result (AreExpectedInForm octets.now) }
 {
     match value_of(alloc, octets) {
         Ok(Some(value)) => expect_taken(alloc, &value),
@@ -175,18 +191,21 @@ fn expect_asked(alloc: Global, octets: &[u8]) -> Result<Question, Unfit>
 }
 
 /// Writes what `expect` answers to an input.
+#[tactic(auto, using(crate::proofs::Formed::where_answered, crate::proofs::Formed::never_answered))]
 pub(crate) fn answer_expect<K: Sink>(
     alloc: Global,
+    form: Form,
     octets: &[u8],
     sink: &mut K,
 ) -> Result<Verdict, WriteRefusal>
-    ensures given { IfOk result (λ verdict. WasGiven (expect_answer octets.now) verdict
+    ensures given { IfOk result (λ verdict. WasGiven (expect_answer form octets.now) verdict
         (K.taken sink.old) (K.taken sink.new)) }
-    ensures front { OnErr result (TookFront (K.taken sink.old) (K.taken sink.new) (expect_answer octets.now).text) }
+    ensures front { OnErr result (TookFront (K.taken sink.old) (K.taken sink.new) (expect_answer form octets.now).text) }
     ensures cause { HasWriteCause (K.faults sink.old) (K.faults sink.new) result }
+    ensures in_form { IfOk result (λ verdict. IsAnswer verdict → AreExpectedInForm octets.now) }
 {
     match expect_asked(alloc, octets) {
-        Ok(asked) => write_expected(alloc, &asked.valid, asked.packets.as_slice(), sink),
+        Ok(asked) => write_expected(alloc, form, &asked.valid, asked.packets.as_slice(), sink),
         Err(unfit) => answer_unfit(alloc, unfit, sink),
     }
 }

@@ -5,9 +5,12 @@ ghost use Rattle.serde_json.specs.View.{view};
 ghost use Rattle.ov_io.specs.Inputs.{TookFront};
 ghost use Rattle.ov_io.specs.Pieces.{HasWriteCause, IsOnItsWay};
 ghost use Rattle.compile_answers.specs.Answers.{answer_good};
+ghost use Rattle.inspect_json.specs.declared.form.Form.{Form as LineForm};
 ghost use Rattle.inspect_reasons.specs.CauseLines.{cause_line};
-ghost use Rattle.inspect_answers.specs.Answers.{IsUnfit, WasGiven, judged, why_answer, why_value};
-ghost use Rattle.inspect_answers.specs.Explained.{explained_text, packet_text, packets_from, why_text};
+ghost use Rattle.config_model.specs.Input.{reach_at};
+ghost use Rattle.inspect_answers.specs.InForm.{AreAskedInForm, ReadsInForm};
+ghost use Rattle.inspect_answers.specs.Answers.{IsAnswer, IsUnfit, WasGiven, judged, why_answer, why_value};
+ghost use Rattle.inspect_answers.specs.Explained.{explained_in, explained_text, packet_in, packets_from, why_in};
 
 use crate::verdict::{Verdict, answer_unfit};
 use crate::writing::write_each;
@@ -15,6 +18,7 @@ use compile_answers::{Unfit, valid_of, write_one};
 use config_check::Valid;
 use config_model::{ReachInput, ReadRefusal, read_reach};
 use inspect_changes::LinesOf;
+use inspect_json::{ExplainedJson, Form};
 use inspect_reasons::{Cause, CauseText, causes_of};
 use ov_io::{Sink, TextOut, WriteRefusal, write_gathered};
 use ov_json::value_of;
@@ -41,7 +45,7 @@ impl LinesOf<Cause> for CauseLines {
     }
 }
 
-/// Hands on the lines of an outcome and of what it comes of, behind the number of the packet.
+/// Hands on the lines of text of an outcome and of what it comes of, behind the number of the packet.
 fn write_explained<K: Sink>(
     alloc: Global,
     number: usize,
@@ -60,10 +64,32 @@ fn write_explained<K: Sink>(
     write_each(alloc, &CauseLines { number }, causes, sink, gathered)
 }
 
+/// Hands on an outcome and what it comes of, in a form.
+fn write_in<K: Sink>(
+    alloc: Global,
+    form: Form,
+    told: &ExplainedJson<'_>,
+    outcome: &Outcome,
+    sink: &mut K,
+    gathered: &mut TextOut,
+) -> Result<(), WriteRefusal>
+    ensures ok { OnOk result (IsOnItsWay (K.taken sink.old) (K.taken sink.new) gathered.new []
+        (gathered.old ++ explained_in form told.now.config.now told.now.number outcome.now told.now.causes.now)) }
+    ensures front { OnErr result (TookFront (K.taken sink.old) (K.taken sink.new)
+        (gathered.old ++ explained_in form told.now.config.now told.now.number outcome.now told.now.causes.now)) }
+    ensures cause { HasWriteCause (K.faults sink.old) (K.faults sink.new) result }
+{
+    match form {
+        Form::Text => write_explained(alloc, told.number, outcome, told.causes, sink, gathered),
+        Form::Json => write_one(alloc, told, outcome, sink, gathered),
+    }
+}
+
 /// Hands on the lines of a packet of this number.
 #[tactic(auto, using(ov_io::proofs::PieceLemmas::took_nothing))]
 fn write_packet<K: Sink>(
     alloc: Global,
+    form: Form,
     number: usize,
     valid: &Valid,
     packet: &Packet,
@@ -71,50 +97,57 @@ fn write_packet<K: Sink>(
     gathered: &mut TextOut,
 ) -> Result<(), WriteRefusal>
     ensures ok { OnOk result (IsOnItsWay (K.taken sink.old) (K.taken sink.new) gathered.new []
-        (gathered.old ++ packet_text valid.now.config number packet.now)) }
+        (gathered.old ++ packet_in form valid.now.config number packet.now)) }
     ensures front { OnErr result (TookFront (K.taken sink.old) (K.taken sink.new)
-        (gathered.old ++ packet_text valid.now.config number packet.now)) }
+        (gathered.old ++ packet_in form valid.now.config number packet.now)) }
     ensures cause { HasWriteCause (K.faults sink.old) (K.faults sink.new) result }
 {
     let causes = causes_of(alloc, valid, *packet)?;
     let outcome = reach(valid, *packet);
-    write_explained(alloc, number, &outcome, causes.as_slice(), sink, gathered)
+    let told = ExplainedJson {
+        config: valid.config(),
+        number,
+        causes: causes.as_slice(),
+    };
+    write_in(alloc, form, &told, &outcome, sink, gathered)
 }
 
 /// Hands on the lines of each packet, in order.
 fn write_packets<K: Sink>(
     alloc: Global,
+    form: Form,
     valid: &Valid,
     packets: &[Packet],
     sink: &mut K,
     gathered: &mut TextOut,
 ) -> Result<(), WriteRefusal>
     ensures ok { OnOk result (IsOnItsWay (K.taken sink.old) (K.taken sink.new) gathered.new []
-        (gathered.old ++ packets_from valid.now.config 1 packets.now)) }
+        (gathered.old ++ packets_from form valid.now.config 1 packets.now)) }
     ensures front { OnErr result (TookFront (K.taken sink.old) (K.taken sink.new)
-        (gathered.old ++ packets_from valid.now.config 1 packets.now)) }
+        (gathered.old ++ packets_from form valid.now.config 1 packets.now)) }
     ensures cause { HasWriteCause (K.faults sink.old) (K.faults sink.new) result }
 {
     for (index, packet) in packets.iter().enumerate() {
-        write_packet(alloc, index + 1, valid, packet, sink, gathered)?;
+        write_packet(alloc, form, index + 1, valid, packet, sink, gathered)?;
     }
     Ok(())
 }
 
 /// Writes the outcome of each packet and what it comes of.
-#[tactic(auto, unfolding(crate::specs::Explained::why_text))]
+#[tactic(auto, unfolding(crate::specs::Explained::why_in))]
 fn write_why<K: Sink>(
     alloc: Global,
+    form: Form,
     valid: &Valid,
     packets: &[Packet],
     sink: &mut K,
 ) -> Result<(), WriteRefusal>
-    ensures ok { OnOk result (Appends (K.taken sink.old) (K.taken sink.new) (why_text valid.now.config packets.now)) }
-    ensures front { OnErr result (TookFront (K.taken sink.old) (K.taken sink.new) (why_text valid.now.config packets.now)) }
+    ensures ok { OnOk result (Appends (K.taken sink.old) (K.taken sink.new) (why_in form valid.now.config packets.now)) }
+    ensures front { OnErr result (TookFront (K.taken sink.old) (K.taken sink.new) (why_in form valid.now.config packets.now)) }
     ensures cause { HasWriteCause (K.faults sink.old) (K.faults sink.new) result }
 {
     let mut gathered = TextOut::new(alloc);
-    write_packets(alloc, valid, packets, sink, &mut gathered)?;
+    write_packets(alloc, form, valid, packets, sink, &mut gathered)?;
     write_gathered(sink, &mut gathered)
 }
 
@@ -128,9 +161,10 @@ struct Question {
 /// What `why` takes from a value.
 #[tactic(auto, using(crate::proofs::Unfitting::unfit_anyway), unfolding(crate::specs::Answers::why_value))]
 fn why_taken(alloc: Global, value: &Value) -> Result<Question, Unfit>
-    ensures fit { IfOk result (λ asked. why_value (view value.now)
-        ≡ judged (answer_good (why_text asked.valid.config asked.packets))) }
-    ensures unfit { IfErr result (λ unfit. IsUnfit unfit (why_value (view value.now))) }
+    ensures fit { (form : LineForm) → IfOk result (λ asked. why_value form (view value.now)
+        ≡ judged (answer_good (why_in form asked.valid.config asked.packets))) }
+    ensures unfit { (form : LineForm) → IfErr result (λ unfit. IsUnfit unfit (why_value form (view value.now))) }
+    ensures in_form { OnOk result (ReadsInForm (reach_at []) (λ r. r.input.config) (view value.now)) }
 {
     match read_reach(alloc, value) {
         Ok(ReachInput { input, packets }) => match valid_of(alloc, input) {
@@ -143,11 +177,12 @@ fn why_taken(alloc: Global, value: &Value) -> Result<Question, Unfit>
 }
 
 /// What `why` takes from an input.
-#[tactic(auto, unfolding(crate::specs::Answers::why_answer))]
+#[tactic(auto, using(crate::proofs::Formed::are_where_ok), unfolding(crate::specs::Answers::why_answer))]
 fn why_asked(alloc: Global, octets: &[u8]) -> Result<Question, Unfit>
-    ensures fit { IfOk result (λ asked. why_answer octets.now
-        ≡ judged (answer_good (why_text asked.valid.config asked.packets))) }
-    ensures unfit { IfErr result (λ unfit. IsUnfit unfit (why_answer octets.now)) }
+    ensures fit { (form : LineForm) → IfOk result (λ asked. why_answer form octets.now
+        ≡ judged (answer_good (why_in form asked.valid.config asked.packets))) }
+    ensures unfit { (form : LineForm) → IfErr result (λ unfit. IsUnfit unfit (why_answer form octets.now)) }
+    ensures in_form { OnOk result (AreAskedInForm octets.now) }
 {
     match value_of(alloc, octets) {
         Ok(Some(value)) => why_taken(alloc, &value),
@@ -157,19 +192,22 @@ fn why_asked(alloc: Global, octets: &[u8]) -> Result<Question, Unfit>
 }
 
 /// Writes what `why` answers to an input.
+#[tactic(auto, using(crate::proofs::Formed::where_answered, crate::proofs::Formed::never_answered))]
 pub(crate) fn answer_why<K: Sink>(
     alloc: Global,
+    form: Form,
     octets: &[u8],
     sink: &mut K,
 ) -> Result<Verdict, WriteRefusal>
-    ensures given { IfOk result (λ verdict. WasGiven (why_answer octets.now) verdict
+    ensures given { IfOk result (λ verdict. WasGiven (why_answer form octets.now) verdict
         (K.taken sink.old) (K.taken sink.new)) }
-    ensures front { OnErr result (TookFront (K.taken sink.old) (K.taken sink.new) (why_answer octets.now).text) }
+    ensures front { OnErr result (TookFront (K.taken sink.old) (K.taken sink.new) (why_answer form octets.now).text) }
     ensures cause { HasWriteCause (K.faults sink.old) (K.faults sink.new) result }
+    ensures in_form { IfOk result (λ verdict. IsAnswer verdict → AreAskedInForm octets.now) }
 {
     match why_asked(alloc, octets) {
         Ok(asked) => {
-            write_why(alloc, &asked.valid, asked.packets.as_slice(), sink)?;
+            write_why(alloc, form, &asked.valid, asked.packets.as_slice(), sink)?;
             Ok(Verdict::Good)
         }
         Err(unfit) => answer_unfit(alloc, unfit, sink),

@@ -2,10 +2,12 @@
 ghost use Rattle.std.specs.Prelude.{◌≡◌, ◌++◌, IfOk, OnOk, OnErr, codes, string_bytes};
 ghost use Rattle.ov_types.specs.Rows.{rule_text};
 ghost use Rattle.inspect_changes.specs.Report.Lists.{more_text};
-ghost use Rattle.inspect_answers.specs.IdleLines.{chain_line, idle_line, policy_line, rule_line, rule_words};
+ghost use Rattle.inspect_answers.specs.IdleLines.{chain_line, idle_line, idle_line_in, policy_line, rule_line, rule_words};
 ghost use Rattle.inspect_answers.specs.IdleLines.{rules_text};
 
+use config_types::Config;
 use inspect_changes::LinesOf;
+use inspect_json::{Form, IdleJson};
 use inspect_rules::Idle;
 use ov_io::TextOut;
 use ov_types::{Name, NoMemory, RuleNo};
@@ -89,18 +91,37 @@ fn append_chain(name: Name, out: &mut TextOut) -> Result<(), NoMemory>
     write!(out, "chain {name} unused\n")
 }
 
-/// The line of what decides nothing, or is not in use.
-#[derive(Clone, Copy)]
-pub(crate) struct IdleLines;
+/// Appends the line of text of what decides nothing, or is not in use.
+fn append_text(alloc: Global, found: &Idle, out: &mut TextOut) -> Result<(), NoMemory>
+    ensures ok { OnOk result (out.new ≡ out.old ++ idle_line found.now) }
+    ensures err { OnErr result (out.new ≡ out.old) }
+{
+    match found {
+        Idle::Rule { rule, before } => append_rule(alloc, *rule, before.as_slice(), out),
+        Idle::Policy { name, networks } => append_policy(*name, *networks, out),
+        Idle::Chain { name } => append_chain(*name, out),
+    }
+}
 
-impl LinesOf<Idle> for IdleLines {
-    ghost lines = { λ w found. idle_line found };
+/// The line of what decides nothing, or is not in use, of a configuration, in a form.
+#[derive(Clone, Copy)]
+pub(crate) struct IdleIn<'a> {
+    pub(crate) form: Form,
+    pub(crate) config: &'a Config,
+}
+
+impl LinesOf<Idle> for IdleIn<'_> {
+    ghost lines = { λ w found. idle_line_in w.form w.config.now found };
 
     fn append(&self, alloc: Global, found: &Idle, out: &mut TextOut) -> Result<(), NoMemory> {
-        match found {
-            Idle::Rule { rule, before } => append_rule(alloc, *rule, before.as_slice(), out),
-            Idle::Policy { name, networks } => append_policy(*name, *networks, out),
-            Idle::Chain { name } => append_chain(*name, out),
+        match self.form {
+            Form::Text => append_text(alloc, found, out),
+            Form::Json => {
+                let lines = IdleJson {
+                    config: self.config,
+                };
+                lines.append(alloc, found, out)
+            }
         }
     }
 }

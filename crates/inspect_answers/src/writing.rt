@@ -3,12 +3,14 @@ ghost use Rattle.std.specs.Prelude.{◌≡◌, ◌++◌, [], flat_map, OnOk, OnE
 ghost use Rattle.std.specs.Io.KnownBytes.{Appends};
 ghost use Rattle.ov_io.specs.Inputs.{TookFront};
 ghost use Rattle.ov_io.specs.Pieces.{HasWriteCause, IsOnItsWay};
-ghost use Rattle.inspect_changes.specs.Lines.{between_text, is_asked, network_text, pair_text, ways_text};
+ghost use Rattle.inspect_changes.specs.Lines.{is_asked};
+ghost use Rattle.inspect_json.specs.WayLines.{between_in, network_in, pair_in, ways_in};
 
 use compile_answers::write_one;
 use config_check::Valid;
 use config_types::Network;
-use inspect_changes::{LinesOf, Pairs, WayLines, ways_found};
+use inspect_changes::{LinesOf, Pairs, ways_found};
+use inspect_json::{Form, WaysIn};
 use ov_io::{Sink, TextOut, WriteRefusal, write_gathered};
 use policy_regions::LastFound;
 use std::alloc::Global;
@@ -37,6 +39,7 @@ pub(crate) fn write_each<K: Sink, T, W: LinesOf<T>>(
 #[tactic(auto, using(ov_io::proofs::PieceLemmas::took_nothing))]
 fn write_between<K: Sink>(
     alloc: Global,
+    form: Form,
     valid: &Valid,
     last: &mut LastFound,
     from: &Network,
@@ -45,13 +48,15 @@ fn write_between<K: Sink>(
     gathered: &mut TextOut,
 ) -> Result<(), WriteRefusal>
     ensures ok { OnOk result (IsOnItsWay (K.taken sink.old) (K.taken sink.new) gathered.new []
-        (gathered.old ++ between_text valid.now.config from.now to.now)) }
+        (gathered.old ++ between_in form valid.now.config from.now to.now)) }
     ensures front { OnErr result (TookFront (K.taken sink.old) (K.taken sink.new)
-        (gathered.old ++ between_text valid.now.config from.now to.now)) }
+        (gathered.old ++ between_in form valid.now.config from.now to.now)) }
     ensures cause { HasWriteCause (K.faults sink.old) (K.faults sink.new) result }
 {
     let ways = ways_found(alloc, valid, last, from, to)?;
-    let lines = WayLines {
+    let lines = WaysIn {
+        form,
+        config: valid.config(),
         from: from.name,
         to: to.name,
     };
@@ -74,6 +79,7 @@ fn is_asked(pairs: &Pairs, from: &Network, to: &Network) -> bool
 #[tactic(auto, using(ov_io::proofs::PieceLemmas::way_stays))]
 fn write_pair<K: Sink>(
     alloc: Global,
+    form: Form,
     pairs: &Pairs,
     valid: &Valid,
     last: &mut LastFound,
@@ -83,13 +89,13 @@ fn write_pair<K: Sink>(
     gathered: &mut TextOut,
 ) -> Result<(), WriteRefusal>
     ensures ok { OnOk result (IsOnItsWay (K.taken sink.old) (K.taken sink.new) gathered.new []
-        (gathered.old ++ pair_text pairs.now valid.now.config from.now to.now)) }
+        (gathered.old ++ pair_in form pairs.now valid.now.config from.now to.now)) }
     ensures front { OnErr result (TookFront (K.taken sink.old) (K.taken sink.new)
-        (gathered.old ++ pair_text pairs.now valid.now.config from.now to.now)) }
+        (gathered.old ++ pair_in form pairs.now valid.now.config from.now to.now)) }
     ensures cause { HasWriteCause (K.faults sink.old) (K.faults sink.new) result }
 {
     if is_asked(pairs, from, to) {
-        return write_between(alloc, valid, last, from, to, sink, gathered);
+        return write_between(alloc, form, valid, last, from, to, sink, gathered);
     }
     Ok(())
 }
@@ -97,6 +103,7 @@ fn write_pair<K: Sink>(
 /// Hands on the lines of the ways from one network to each of others, in order.
 fn write_network<K: Sink>(
     alloc: Global,
+    form: Form,
     pairs: &Pairs,
     valid: &Valid,
     last: &mut LastFound,
@@ -106,27 +113,28 @@ fn write_network<K: Sink>(
     gathered: &mut TextOut,
 ) -> Result<(), WriteRefusal>
     ensures ok { OnOk result (IsOnItsWay (K.taken sink.old) (K.taken sink.new) gathered.new []
-        (gathered.old ++ flat_map (pair_text pairs.now valid.now.config from.now) others.now)) }
+        (gathered.old ++ flat_map (pair_in form pairs.now valid.now.config from.now) others.now)) }
     ensures front { OnErr result (TookFront (K.taken sink.old) (K.taken sink.new)
-        (gathered.old ++ flat_map (pair_text pairs.now valid.now.config from.now) others.now)) }
+        (gathered.old ++ flat_map (pair_in form pairs.now valid.now.config from.now) others.now)) }
     ensures cause { HasWriteCause (K.faults sink.old) (K.faults sink.new) result }
 {
     for to in others {
-        write_pair(alloc, pairs, valid, last, from, to, sink, gathered)?;
+        write_pair(alloc, form, pairs, valid, last, from, to, sink, gathered)?;
     }
     Ok(())
 }
 
 /// Writes the ways that are asked for of a valid configuration.
-#[tactic(auto, unfolding(inspect_changes::specs::Lines::ways_text))]
+#[tactic(auto, unfolding(inspect_json::specs::WayLines::ways_in))]
 pub(crate) fn write_all_ways<K: Sink>(
     alloc: Global,
+    form: Form,
     pairs: &Pairs,
     valid: &Valid,
     sink: &mut K,
 ) -> Result<(), WriteRefusal>
-    ensures ok { OnOk result (Appends (K.taken sink.old) (K.taken sink.new) (ways_text pairs.now valid.now.config)) }
-    ensures front { OnErr result (TookFront (K.taken sink.old) (K.taken sink.new) (ways_text pairs.now valid.now.config)) }
+    ensures ok { OnOk result (Appends (K.taken sink.old) (K.taken sink.new) (ways_in form pairs.now valid.now.config)) }
+    ensures front { OnErr result (TookFront (K.taken sink.old) (K.taken sink.new) (ways_in form pairs.now valid.now.config)) }
     ensures cause { HasWriteCause (K.faults sink.old) (K.faults sink.new) result }
 {
     let networks = valid.config().networks.as_slice();
@@ -135,6 +143,7 @@ pub(crate) fn write_all_ways<K: Sink>(
     for from in networks {
         write_network(
             alloc,
+            form,
             pairs,
             valid,
             &mut last,

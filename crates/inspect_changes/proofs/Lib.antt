@@ -4,3 +4,4 @@ pub mod Delivered
 pub mod WhatWent
 pub mod Throughout
 pub mod SomeLine
+pub mod Unchanged

@@ -1,5 +1,6 @@
 pub mod Ways
 pub mod Fates
+pub mod Unchanged
 pub mod Deliveries
 pub mod Objects
 pub mod Unnamed

@@ -1,9 +1,10 @@
 //! What becomes otherwise of packets between two networks in one configuration than in another.
-ghost use Rattle.std.specs.Prelude.{◌≡◌, ◌↔◌, ◌==◌, ◌++◌, flat_map, option_map, option_to_list, IfOk, OnOk};
+ghost use Rattle.std.specs.Prelude.{◌≡◌, ◌↔◌, Some, ◌==◌, ◌++◌, flat_map, option_map, option_to_list, IfOk, OnOk};
 ghost use Rattle.std.specs.List.{list_all, zip};
 ghost use Rattle.ov_types.specs.declared.packet.Tuple.{Tuple};
 ghost use Rattle.config_check.specs.Finding.{network_named};
 ghost use Rattle.policy_regions.specs.Parts.{IsTuple};
+ghost use Rattle.inspect_changes.specs.Unchanged.{differences_by, stay, stays_by};
 ghost use Rattle.inspect_changes.specs.Fates.{differences_between, differences_of, fate_by, passage, same_passage, same_services};
 ghost use Rattle.inspect_changes.specs.Fates.{all_differences, differences_from, differences_to};
 ghost use Rattle.inspect_changes.specs.Fates.{FaresOtherwise, IsOnDifference, IsOnOneDifferenceAtMost};
@@ -14,7 +15,9 @@ use crate::services::services_through;
 use config_check::{Valid, network_named};
 use config_types::Network;
 use ov_types::{Items, NoMemory, ServiceNo};
-use policy_regions::{Compared, Effect, LastFound, overlay, regions_between};
+use policy_regions::{
+    Claim, Compared, Effect, LastLaid, are_same, claims_between, overlay, regions_between,
+};
 use policy_rules::Decision;
 use std::alloc::Global;
 
@@ -169,17 +172,50 @@ pub fn differences_between(
     Ok(Items::from_vec(differences))
 }
 
-/// The regions of two configurations that were found last.
-#[derive(Drop)]
-struct Known {
-    before: LastFound,
-    after: LastFound,
+/// Whether packets of a claim are let through by the same services in two configurations, or in neither.
+fn fares_alike(before: &Valid, after: &Valid, claim: &Claim) -> bool
+    ensures { result ≡ stays_by before.now.config after.now.config (Some claim.now.decision) claim.now.effect }
+{
+    let decision = Some(claim.decision);
+    let was = fate_by(before, &decision, &claim.effect);
+    let becomes = fate_by(after, &decision, &claim.effect);
+    have_same_passage(&was, &becomes)
 }
 
-fn nothing_known(alloc: Global) -> Result<Known, NoMemory> {
-    let before = LastFound::new(alloc)?;
-    let after = LastFound::new(alloc)?;
-    Ok(Known { before, after })
+fn fare_alike(before: &Valid, after: &Valid, claims: &[Claim]) -> bool
+    ensures { result ≡ list_all (λ k. stays_by before.now.config after.now.config (Some k.decision) k.effect) claims.now }
+{
+    claims.iter().all(|claim| fares_alike(before, after, claim))
+}
+
+/// Whether claims in two configurations are the same, and their packets fare alike.
+fn stay(before: &Valid, after: &Valid, claims: &[Claim], claims_after: &[Claim]) -> bool
+    ensures { result ≡ stay before.now.config after.now.config claims.now claims_after.now }
+{
+    are_same(claims, claims_after) && fare_alike(before, after, claims)
+}
+
+/// Appends the differences from one network to another by what the rules between them claim.
+#[tactic(auto, using(crate::proofs::Unchanged::nothing_new))]
+fn push_by_claims(
+    alloc: Global,
+    differences: &mut Vec<Difference>,
+    last: &mut LastLaid,
+    before: &Valid,
+    from: &Network,
+    to: &Network,
+    after: &Valid,
+    claims: Vec<Claim>,
+    claims_after: Vec<Claim>,
+) -> Result<(), NoMemory>
+    ensures { OnOk result (differences.new.items ≡ differences.old.items
+        ++ differences_by before.now.config from.now to.now after.now.config claims.items claims_after.items) }
+{
+    if stay(before, after, &claims, &claims_after) {
+        return Ok(());
+    }
+    last.find(alloc, claims, claims_after)?;
+    push_each(differences, from, to, before, after, last.compared())
 }
 
 /// Appends the differences from one network to another.
@@ -187,7 +223,7 @@ fn nothing_known(alloc: Global) -> Result<Known, NoMemory> {
 fn push_between(
     alloc: Global,
     differences: &mut Vec<Difference>,
-    known: &mut Known,
+    last: &mut LastLaid,
     before: &Valid,
     from: &Network,
     to: &Network,
@@ -198,19 +234,26 @@ fn push_between(
     ensures { OnOk result (differences.new.items ≡ differences.old.items
         ++ differences_between before.now.config from.now to.now after.now.config from_after.now to_after.now) }
 {
-    known.before.find(alloc, before.config(), from, to)?;
-    known
-        .after
-        .find(alloc, after.config(), from_after, to_after)?;
-    let compared = overlay(alloc, known.before.regions(), known.after.regions())?;
-    push_each(differences, from, to, before, after, compared.as_slice())
+    let claims = claims_between(alloc, before.config(), from, to)?;
+    let claims_after = claims_between(alloc, after.config(), from_after, to_after)?;
+    push_by_claims(
+        alloc,
+        differences,
+        last,
+        before,
+        from,
+        to,
+        after,
+        claims,
+        claims_after,
+    )
 }
 
 /// Appends the differences from one network to another, where that stands in both configurations.
 fn push_to(
     alloc: Global,
     differences: &mut Vec<Difference>,
-    known: &mut Known,
+    last: &mut LastLaid,
     before: &Valid,
     from: &Network,
     to: &Network,
@@ -230,7 +273,7 @@ fn push_to(
     push_between(
         alloc,
         differences,
-        known,
+        last,
         before,
         from,
         to,
@@ -244,7 +287,7 @@ fn push_to(
 fn push_to_each(
     alloc: Global,
     differences: &mut Vec<Difference>,
-    known: &mut Known,
+    last: &mut LastLaid,
     before: &Valid,
     from: &Network,
     others: &[Network],
@@ -259,7 +302,7 @@ fn push_to_each(
         push_to(
             alloc,
             differences,
-            known,
+            last,
             before,
             from,
             to,
@@ -274,7 +317,7 @@ fn push_to_each(
 fn push_from(
     alloc: Global,
     differences: &mut Vec<Difference>,
-    known: &mut Known,
+    last: &mut LastLaid,
     before: &Valid,
     from: &Network,
     after: &Valid,
@@ -289,7 +332,7 @@ fn push_from(
     push_to_each(
         alloc,
         differences,
-        known,
+        last,
         before,
         from,
         before.config().networks.as_slice(),
@@ -306,10 +349,10 @@ pub fn all_differences(
 ) -> Result<Vec<Difference>, NoMemory>
     ensures { IfOk result (λ v. v.items ≡ all_differences before.now.config after.now.config) }
 {
-    let mut known = nothing_known(alloc)?;
+    let mut last = LastLaid::new(alloc)?;
     let mut differences = Vec::new(alloc);
     for from in before.config().networks.as_slice() {
-        push_from(alloc, &mut differences, &mut known, before, from, after)?;
+        push_from(alloc, &mut differences, &mut last, before, from, after)?;
     }
     Ok(differences)
 }

@@ -6,7 +6,7 @@ use Rattle.std.proofs.lemmas.List.Elements.{All-cons}
 use Rattle.ov_types.specs.Access.{in_range}
 use Rattle.ov_types.specs.First.{◌<|>◌, first_of}
 use Rattle.ov_types.specs.declared.packet.Tuple.{Tuple}
-use Rattle.ov_types.proofs.FirstLemmas.{first_append, first_flat}
+use Rattle.ov_types.proofs.FirstLemmas.{all_head, all_tail, first_append, first_flat}
 use Rattle.config_types.specs.declared.config.Config.{Config}
 use Rattle.config_types.specs.declared.config.Network.{Network}
 use Rattle.config_types.specs.declared.config.Protocol.{Protocol}
@@ -31,14 +31,14 @@ use Rattle.policy_regions.proofs.Cuts.{marks, marks_append, common_region_holds,
 -- what the regions say that hold a tuple
 
 -- what is said of packets on which no rule decides
-abbrev nothing : Said
+abbrev pub nothing : Said
 nothing = (None, Drops)
 
-abbrev or_nothing : Option Said → Said
+abbrev pub or_nothing : Option Said → Said
 or_nothing None = nothing
 or_nothing (Some x) = x
 
-abbrev claimed : Claim → Said
+abbrev pub claimed : Claim → Said
 claimed c = (Some c.decision, c.effect)
 
 abbrev said_by : Match → Said
@@ -109,7 +109,7 @@ module _ (t : Tuple) (c : Claim) where
 
 -- the first claim that holds a tuple decides
 
-abbrev claim_on : Tuple → Claim → Option Said
+abbrev pub claim_on : Tuple → Claim → Option Said
 claim_on t c = cond (holds c.region t) (Some (claimed c)) None
 
 -- joined regions that all say one thing of a tuple
@@ -151,6 +151,24 @@ carved t (c ∷ cs) left =
       | false ↦ λ e.
           ap (λ (xs : List (Said)). xs ++ marks H (or_nothing later) rest) (says_none t (flat_map (taken_by c) left) (takes_none t c e left)) ∙ leaves t c (or_nothing later) e left
     ] refl
+
+-- of a tuple all regions that claims make say what the first claim says that holds it, or what is said where none does
+
+pub one_said : (t : Tuple) (cs : List Claim)
+    → All (λ q. IsTrue (holds q.region t) → (q.decision, q.effect) ≡ or_nothing (first_of (claim_on t) cs)) (joined (carve cs (everything ∷ [])))
+one_said t cs =
+    let x : Said = or_nothing (first_of (claim_on t) cs) in
+    let left : List Region = everything ∷ [] in
+    all_say x t (joined (carve cs left))
+    (subst (λ (ys : List Said). All (λ y. y ≡ x) ys) (sym (says_joined t x left (carve cs left) (carved t cs left))) (marks_are (λ (r : Region). holds r t) x left))
+
+pub first_said : (P : Said → Type 0) (t : Tuple) (cs : List Claim) → P nothing → All (λ c. P (claimed c)) cs → P (or_nothing (first_of (claim_on t) cs))
+first_said P t [] h k = h
+first_said P t (c ∷ cs) h k =
+    elim (holds c.region t) as (λ b. P (or_nothing (cond b (Some (claimed c)) None <|> first_of (claim_on t) cs))) [
+      | true ↦ all_head (λ (d : Claim). P (claimed d)) c cs k
+      | false ↦ first_said P t cs h (all_tail (λ (d : Claim). P (claimed d)) c cs k)
+    ]
 
 -- claims and rules
 

@@ -11,3 +11,4 @@ pub mod Orders
 pub mod Overlaid
 pub mod Sorting
 pub mod Turns
+pub mod Alike

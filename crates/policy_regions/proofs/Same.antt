@@ -1,5 +1,5 @@
 -- Claims that are the same one by one are equal.
-use Rattle.std.proofs.Common.{◌≡◌, ℕ, ◌&&◌, eqb, Bool, true, false, length, List, [], ◌∷◌, refl, sym, Option, Some, ap, arith}
+use Rattle.std.proofs.Common.{◌≡◌, ◌&&◌, eqb, Bool, true, length, List, [], ◌∷◌, refl, sym, Some, arith}
 use Rattle.std.specs.List.{list_all, zip}
 use Rattle.std.proofs.lemmas.Bool.{eqb-true}
 use Rattle.ov_types.specs.declared.packet.Range16.{Range16}

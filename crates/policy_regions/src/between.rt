@@ -19,7 +19,7 @@ use ov_types::{Items, NoMemory};
 use std::alloc::Global;
 
 /// The claims of the rules between two networks.
-pub(crate) fn claims_between(
+pub fn claims_between(
     alloc: Global,
     config: &Config,
     from: &Network,

@@ -42,7 +42,7 @@ fn are_alike(claims: &[Claim], others: &[Claim]) -> bool
 }
 
 /// Whether claims are the same, one by one.
-fn are_same(claims: &[Claim], others: &[Claim]) -> bool
+pub fn are_same(claims: &[Claim], others: &[Claim]) -> bool
     ensures { result ≡ same_claims claims.now others.now }
 {
     claims.len() == others.len() && are_alike(claims, others)
@@ -98,6 +98,14 @@ impl LastFound {
         ensures kept { OnErr result (self.new ≡ self.old) }
     {
         let claims = claims_between(alloc, config, from, to)?;
+        self.find_by(alloc, claims)
+    }
+
+    /// Finds the regions that claims make. Where they are the same as those before, the regions are there already.
+    fn find_by(&mut self, alloc: Global, claims: Vec<Claim>) -> Result<(), NoMemory>
+        ensures regions { OnOk result (self.new ≡ joined (carve claims.items (everything ∷ []))) }
+        ensures kept { OnErr result (self.new ≡ self.old) }
+    {
         if !are_same(&self.claims, &claims) {
             *self = found(alloc, claims)?;
         }

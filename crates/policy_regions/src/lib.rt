@@ -7,12 +7,14 @@ mod carving;
 mod claims;
 mod joining;
 mod last_found;
+mod last_laid;
 pub mod laws;
 mod overlays;
 mod policies;
 mod region;
 
-pub use between::regions_between;
-pub use last_found::LastFound;
+pub use between::{claims_between, regions_between};
+pub use last_found::{LastFound, are_same};
+pub use last_laid::LastLaid;
 pub use overlays::{Compared, overlay};
-pub use region::{DecidedRegion, Effect, Region};
+pub use region::{Claim, DecidedRegion, Effect, Region};

@@ -33,7 +33,7 @@ impl StoredTables {
     pub fn held(&self) -> &VpnTables
         ensures { result.now ≡ self.now }
     {
-        self.held.held()
+        &self.held
     }
 
     /// The object that is held at a key. It takes no memory.
@@ -41,14 +41,14 @@ impl StoredTables {
         ensures object { option_copied result ≡ object self.now.feed key.now }
         ensures fits { IfSome result (λ value. Fits key.now value.now) }
     {
-        self.held.held().low(key)
+        self.held.low(key)
     }
 
     /// The AS number. It takes no memory.
     pub fn asn(&self) -> u32
         ensures { result ≡ self.now.asn }
     {
-        self.held.held().asn()
+        self.held.asn()
     }
 
     /// No held use has more than 15 services.
@@ -62,21 +62,21 @@ impl StoredTables {
     pub fn is_known(&self, i: InstanceId) -> bool
         ensures { result ≡ is_known self.now.feed i }
     {
-        self.held.held().is_known(i)
+        self.held.is_known(i)
     }
 
     /// The known instances, in order: the networks that are held, and then the places of the uses that are held.
     pub fn known_instances(&self) -> Result<Vec<InstanceId>, NoMemory>
         ensures { IfOk result (λ instances. instances.items ≡ known_instances self.now.feed) }
     {
-        self.held.held().known_instances()
+        self.held.known_instances()
     }
 
     /// The instances that an instance imports the routes of: none where it is not known.
     pub fn imports(&self, i: InstanceId) -> Result<Vec<InstanceId>, NoMemory>
         ensures { IfOk result (λ instances. instances.items ≡ imports self.now.feed i) }
     {
-        self.held.held().imports(i)
+        self.held.imports(i)
     }
 
     /// The keys of what all agents told, each once, in order.
@@ -84,7 +84,7 @@ impl StoredTables {
         ensures keys { IfOk result (λ keys. keys.items ≡ in_order up_order (held_keys self.now)) }
         ensures in_range { UsesAreInRange self.now.feed }
     {
-        self.held.held().up_keys()
+        self.held.up_keys()
     }
 
     /// The address and the label of a circuit's publication; where two agents publish it, of the lower session. No
@@ -93,7 +93,7 @@ impl StoredTables {
         ensures counts { circuit ≤ 131071 → result ≡ publisher self.now circuit }
         ensures no_circuit { 131071 < circuit → result ≡ None }
     {
-        self.held.held().publisher(circuit)
+        self.held.publisher(circuit)
     }
 
     /// Whether a subnet of a side of the use that the instance is a hop of is reachable from there: false for another
@@ -102,23 +102,23 @@ impl StoredTables {
         ensures { result ≡ is_up_at self.now hop subnet.now right }
     {
         if !self.stored {
-            return self.held.held().up(hop, subnet, right);
+            return self.held.up(hop, subnet, right);
         }
-        stored_up(self.uses.as_slice(), self.held.held(), hop, subnet, right)
+        stored_up(self.uses.as_slice(), &self.held, hop, subnet, right)
     }
 
     /// The own routes, by session and then by publication. Two may have one key; the first of these counts.
     pub fn own_routes(&self) -> Result<Vec<Route>, NoMemory>
         ensures { IfOk result (λ routes. map path_of routes.items ≡ own_paths self.now) }
     {
-        self.held.held().own_routes()
+        self.held.own_routes()
     }
 
     /// The first own route of a key, where there is one. It takes no memory.
     pub fn own_keyed(&self, key: &VpnKey) -> Option<Route>
         ensures { option_map path_of result ≡ first_keyed key.now (own_paths self.now) }
     {
-        self.held.held().own_keyed(key)
+        self.held.own_keyed(key)
     }
 
     /// The re-originated routes: of each held use by number, the right side's before the left's, by the distance that
@@ -128,7 +128,7 @@ impl StoredTables {
         ensures { IfOk result (λ routes. map path_of routes.items ≡ reoriginated_paths self.now) }
     {
         if !self.stored {
-            return self.held.held().reoriginated_paths();
+            return self.held.reoriginated_paths();
         }
         all_routes(self.alloc, self.uses.as_slice())
     }
@@ -137,7 +137,7 @@ impl StoredTables {
     pub fn led_keyed(&self, key: &VpnKey) -> Option<Route>
         ensures { option_map path_of result ≡ first_keyed key.now (reoriginated_paths self.now) }
     {
-        self.held.held().led_keyed(key)
+        self.held.led_keyed(key)
     }
 }
 
@@ -148,35 +148,35 @@ impl StoredTables {
     pub fn slice(&self, address: Addr) -> Result<Vec<(LowKey, LowValue)>, NoMemory>
         ensures { IfOk result (λ objects. objects.items ≡ slice self.now.feed address) }
     {
-        self.held.held().slice(address)
+        self.held.slice(address)
     }
 
     /// The object of a key, where it is of the slice of an address.
     pub fn sliced(&self, address: Addr, key: &LowKey) -> Result<Option<LowValue>, NoMemory>
         ensures { IfOk result (λ object. object ≡ sliced self.now.feed address key.now) }
     {
-        self.held.held().sliced(address, key)
+        self.held.sliced(address, key)
     }
 
     /// The instances that the agent of a session subscribed, in order: none where the session is no agent's.
     pub fn subscriptions(&self, session: u16) -> Result<Vec<InstanceId>, NoMemory>
         ensures { IfOk result (λ instances. instances.items ≡ subscriptions (told_in self.now.agents session).map) }
     {
-        self.held.held().subscriptions(session)
+        self.held.subscriptions(session)
     }
 
     /// Whether the agent of a session subscribed an instance. It takes no memory.
     pub fn subscribes(&self, session: u16, i: InstanceId) -> bool
         ensures { result ≡ is_some (get (told_in self.now.agents session).map (Subscribe i)) }
     {
-        self.held.held().subscribes(session, i)
+        self.held.subscribes(session, i)
     }
 
     /// The address of the agent of a session: 0.0.0.0 where the session is no agent's. It takes no memory.
     pub fn address_of(&self, session: u16) -> Addr
         ensures { result ≡ (told_in self.now.agents session).address }
     {
-        self.held.held().address_of(session)
+        self.held.address_of(session)
     }
 }
 
@@ -190,7 +190,7 @@ impl StoredTables {
     ) -> Result<Vec<Target>, NoMemory>
         ensures { IfOk result (λ targets. targets.items ≡ targets_by_route self.now session delta.now) }
     {
-        self.held.held().targets_by_route(session, delta)
+        self.held.targets_by_route(session, delta)
     }
 
     /// The target before and after a change of what an agent told: that of the instance in which it publishes.
@@ -201,7 +201,7 @@ impl StoredTables {
     ) -> Result<Vec<Target>, NoMemory>
         ensures { IfOk result (λ targets. targets.items ≡ targets_by_publication self.now session delta.now) }
     {
-        self.held.held().targets_by_publication(session, delta)
+        self.held.targets_by_publication(session, delta)
     }
 
     /// The rows that a change of paths to a prefix, with these targets before and after it, may change.
@@ -212,7 +212,7 @@ impl StoredTables {
     ) -> Result<Vec<(InstanceId, Prefix)>, NoMemory>
         ensures { IfOk result (λ rows. rows.items ≡ touched_rows self.now targets.now prefix) }
     {
-        self.held.held().touched_rows(targets, prefix)
+        self.held.touched_rows(targets, prefix)
     }
 
     /// The rows that a change of a peer's route may change.
@@ -224,7 +224,7 @@ impl StoredTables {
         ensures { IfOk result (λ rows. rows.items
             ≡ touched_rows self.now (targets_by_route self.now session delta.now) (key_of delta.now).prefix) }
     {
-        self.held.held().touched_by_route(session, delta)
+        self.held.touched_by_route(session, delta)
     }
 
     /// Those that a change of what an agent told may change: of a subscription none.
@@ -236,7 +236,7 @@ impl StoredTables {
         ensures { IfOk result (λ rows. rows.items
             ≡ rows_by_key self.now (targets_by_publication self.now session delta.now) (key_of delta.now)) }
     {
-        self.held.held().touched_by_publication(session, delta)
+        self.held.touched_by_publication(session, delta)
     }
 
     /// The keys of the routes that may lead on along the uses that are touched by these targets: towards each circuit
@@ -244,7 +244,7 @@ impl StoredTables {
     pub fn keys_led(&self, targets: &[Target]) -> Result<Vec<VpnKey>, NoMemory>
         ensures { IfOk result (λ keys. keys.items ≡ keys_led self.now targets.now) }
     {
-        self.held.held().keys_led(targets)
+        self.held.keys_led(targets)
     }
 
     /// The key of the own route of a publication: none where the session is no agent's, and none of a subscription. It
@@ -252,6 +252,6 @@ impl StoredTables {
     pub fn key_published(&self, session: u16, key: &UpKey) -> Option<VpnKey>
         ensures { result ≡ key_published self.now session key.now }
     {
-        self.held.held().key_published(session, key)
+        self.held.key_published(session, key)
     }
 }

@@ -10,10 +10,10 @@ use crate::rows::{RowKey, Rows};
 use ov_types::{InstanceId, NoMemory, Prefix, TableRow};
 use path_select::{Path, select};
 use std::alloc::Global;
-use vpn_tables_by_prefix::IndexedTables;
+use vpn_tables::VpnTables;
 
 /// The row of a key, from what is held.
-pub(crate) fn selected(held: &IndexedTables, key: RowKey) -> Result<Option<Path>, NoMemory>
+pub(crate) fn selected(held: &VpnTables, key: RowKey) -> Result<Option<Path>, NoMemory>
     ensures { IfOk result (λ row. row ≡ row_of held.now key) }
 {
     let paths = held.paths_at(key.instance, &key.prefix)?;

@@ -12,7 +12,7 @@ use ov_sync::{Delta, SyncIn};
 use ov_types::{InstanceId, NoMemory, Prefix};
 use path_select::{Path, Steps, select_counted};
 use std::sync::ledger::Ledger;
-use vpn_tables_by_prefix::IndexedTables;
+use vpn_tables::VpnTables;
 
 /// An instance and a prefix.
 #[derive(Clone, Copy, Debug, PartialEq, Eq, PartialOrd, Ord)]
@@ -50,7 +50,7 @@ fn set_row(rows: &mut Rows, key: RowKey, row: Option<Path>) -> Result<(), NoMemo
 /// Selects the row of a key anew. It takes at most one step.
 fn reselect<L: Ledger>(
     rows: &mut Rows,
-    held: &IndexedTables,
+    held: &VpnTables,
     key: RowKey,
     steps: &mut Steps<L>,
 ) -> Result<(), NoMemory>
@@ -66,7 +66,7 @@ fn reselect<L: Ledger>(
 /// Selects the rows of some keys anew, each by at most one step.
 pub fn reselect_all<L: Ledger>(
     rows: &mut Rows,
-    held: &IndexedTables,
+    held: &VpnTables,
     touched: &[RowKey],
     steps: &mut Steps<L>,
 ) -> Result<(), NoMemory>

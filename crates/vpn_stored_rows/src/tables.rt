@@ -29,12 +29,11 @@ use std::alloc::Global;
 use std::marker::{Brand, Model};
 use std::sync::ledger::{Blank, Ledger};
 use vpn_tables::VpnTables;
-use vpn_tables_by_prefix::IndexedTables;
 
 /// What a control node holds of its sessions, and the rows and the reachable subnets that follow from it.
 #[derive(Drop)]
 pub struct StoredTables {
-    pub(crate) held: IndexedTables,
+    pub(crate) held: VpnTables,
     rows: Rows,
     pub(crate) uses: Uses,
     /// Whether every row is stored, and every use. Where memory was wanting for that, none counts.
@@ -74,21 +73,21 @@ fn keys_at(alloc: Global, rows: &[(InstanceId, Prefix)]) -> Result<Vec<RowKey>, 
 /// The rows that a change of a peer's route touches.
 fn touched_by_route(
     alloc: Global,
-    held: &IndexedTables,
+    held: &VpnTables,
     session: u16,
     delta: &Delta<VpnKey, VpnRoute>,
 ) -> Result<Vec<RowKey>, NoMemory>
     ensures { IfOk result (λ keys. keys.items ≡ map key_at
         (touched_rows held.now (targets_by_route held.now session delta.now) (key_of delta.now).prefix)) }
 {
-    let touched = held.held().touched_by_route(session, delta)?;
+    let touched = held.touched_by_route(session, delta)?;
     keys_at(alloc, touched.as_slice())
 }
 
 /// Selects the touched rows anew, where rows are stored. Says whether they are stored then.
 fn restore<L: Ledger>(
     rows: &mut Rows,
-    held: &IndexedTables,
+    held: &VpnTables,
     touched: &[RowKey],
     stored: bool,
     steps: &mut Steps<L>,
@@ -113,7 +112,7 @@ fn restore<L: Ledger>(
 fn restore_uses(
     uses: &mut Uses,
     alloc: Global,
-    held: &IndexedTables,
+    held: &VpnTables,
     touched: &[RowKey],
     stored: bool,
 ) -> bool
@@ -125,7 +124,7 @@ fn restore_uses(
     if !stored {
         return false;
     }
-    match remake_all(uses, alloc, held.held(), touched) {
+    match remake_all(uses, alloc, held, touched) {
         Ok(()) => true,
         Err(NoMemory) => false,
     }
@@ -134,7 +133,7 @@ fn restore_uses(
 /// Applies a change of a peer's route, and makes what it touches anew. Says whether all is stored then.
 fn change_route<L: Ledger>(
     alloc: Global,
-    held: &mut IndexedTables,
+    held: &mut VpnTables,
     rows: &mut Rows,
     uses: &mut Uses,
     stored: bool,
@@ -184,7 +183,7 @@ fn low_key(delta: &Delta<LowKey, LowValue>) -> LowKey
 
 /// Applies a change that the feed told. Says whether all is stored then.
 fn change_low(
-    held: &mut IndexedTables,
+    held: &mut VpnTables,
     rows: &Rows,
     uses: &Uses,
     stored: bool,
@@ -207,21 +206,21 @@ fn change_low(
 /// The rows that a change of what an agent told touches.
 fn touched_by_publication(
     alloc: Global,
-    held: &IndexedTables,
+    held: &VpnTables,
     session: u16,
     delta: &Delta<UpKey, Label>,
 ) -> Result<Vec<RowKey>, NoMemory>
     ensures { IfOk result (λ keys. keys.items ≡ map key_at
         (rows_by_key held.now (targets_by_publication held.now session delta.now) (key_of delta.now))) }
 {
-    let touched = held.held().touched_by_publication(session, delta)?;
+    let touched = held.touched_by_publication(session, delta)?;
     keys_at(alloc, touched.as_slice())
 }
 
 /// Applies a change of what an agent told, and makes what it touches anew. Says whether all is stored then.
 fn change_publication<L: Ledger>(
     alloc: Global,
-    held: &mut IndexedTables,
+    held: &mut VpnTables,
     rows: &mut Rows,
     uses: &mut Uses,
     stored: bool,
@@ -252,7 +251,7 @@ impl StoredTables {
         ensures { result ≡ nothing asn }
     {
         StoredTables {
-            held: IndexedTables::new(alloc, asn),
+            held: VpnTables::new(alloc, asn),
             rows: SyncIn::new(alloc),
             uses: Vec::new(alloc),
             stored: false,
@@ -355,7 +354,7 @@ impl StoredTables {
         ensures { IfOk result (λ rows. rows.items ≡ rows_at self.now i) }
     {
         if !self.stored {
-            return self.held.held().table(i);
+            return self.held.table(i);
         }
         listed(self.alloc, &self.rows, i)
     }
@@ -402,7 +401,7 @@ impl StoredTables {
         if !self.stored {
             self.stored = false;
             store_all::<Brand>(&mut self.rows, &self.held, self.alloc, Blank::new(1))?;
-            store_uses(&mut self.uses, self.alloc, self.held.held())?;
+            store_uses(&mut self.uses, self.alloc, &self.held)?;
             self.stored = true;
         }
         Ok(())
@@ -444,7 +443,7 @@ fn set_publication_on<L: Ledger>(
 /// Stores the row of every table.
 fn store_all<L: Ledger>(
     rows: &mut Rows,
-    held: &IndexedTables,
+    held: &VpnTables,
     alloc: Global,
     blank: Blank,
 ) -> Result<(), NoMemory>
@@ -455,7 +454,7 @@ fn store_all<L: Ledger>(
 {
     held.uses_are_short();
     rows.reset();
-    let keys = all_keys(alloc, held.held())?;
+    let keys = all_keys(alloc, held)?;
     let mut steps = Steps::<L>::new(blank);
     reselect_all(rows, held, keys.as_slice(), &mut steps)
 }

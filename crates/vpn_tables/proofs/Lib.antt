@@ -4,7 +4,6 @@ pub mod Values
 pub mod Peers
 pub mod Agents
 pub mod Seating
-pub mod Within
 pub mod Walks
 pub mod Imported
 pub mod Selected
@@ -25,6 +24,13 @@ pub mod Keeping
 pub mod Keyed
 pub mod LedAt
 pub mod Once
-pub mod Rowed
 pub mod Gathering
 pub mod NodeModel
+pub mod PrefixOrder
+pub mod Staying
+pub mod PeersIndexed
+pub mod AgentsIndexed
+pub mod PathsReceived
+pub mod Subnets
+pub mod WithLed
+pub mod ControlSilentAgentLaws

@@ -91,3 +91,6 @@ fit_changed old new place n d e lt h =
 pub fit_emptied : (old new : List Peer) (place n : ℕ) → map peer_of new ≡ emptied_at (map peer_of old) place → length old ≤ n → length new ≤ n
 fit_emptied old new place n e h =
     let a = length-map old in let b = length-emptied (map peer_of old) place in let c = sym (length-map new) ∙ ap length e in omega (arith, a, b, c, h)
+
+pub fit_same : (old new : List Peer) (n : ℕ) → map peer_of new ≡ map peer_of old → length old ≤ n → length new ≤ n
+fit_same old new n e h = let a = length-map old in let c = sym (length-map new) ∙ ap length e in omega (arith, a, c, h)

@@ -1,17 +1,12 @@
 -- The paths that are walked over, from the typed entries.
-use Rattle.std.specs.Prelude.{◌≡◌, ◌<◌, ℕ, suc, ◌+◌, length, drop, List, [], ◌∷◌, ◌++◌, map, Bool, true, false, cond, ◌||◌}
+use Rattle.std.specs.Prelude.{◌≡◌, ◌<◌, ℕ, suc, ◌+◌, length, drop, List, [], ◌∷◌, ◌++◌, map}
 use Rattle.std.specs.declared.option.Option.{Option}
-use Rattle.std.specs.declared.option.Option.TheVariants.{Some, None}
-use Rattle.std.specs.List.{list_any, filter, filter_map, cons_option, flat_map, enumerate_from}
+use Rattle.std.specs.List.{filter_map, cons_option, flat_map, enumerate_from}
 use Rattle.std.specs.List.Sorted.{IsStrictlySortedBy}
 use Rattle.std.specs.FinMap.{entries}
 use Rattle.std.proofs.Math.Seq.{drop-cons}
 use Rattle.std.proofs.Common.{refl, sym, ◌∙◌, ap, arith, get_or}
-use Rattle.std.proofs.Math.Bool.{or_assoc}
-use Rattle.std.proofs.lemmas.Bool.{true≢false}
 use Rattle.ov_sync.specs.Embed.{moved_entry}
-use Rattle.ov_types.specs.Prefix.{Block, is_inside}
-use Rattle.ov_types.specs.declared.numbers.InstanceId.{InstanceId}
 use Rattle.ov_types.specs.declared.keys.UpKey.{UpKey}
 use Rattle.ov_types.specs.declared.numbers.Label.{Label as LabelNo}
 use Rattle.ov_types.specs.declared.vpn.VpnKey.{VpnKey}
@@ -19,11 +14,7 @@ use Rattle.ov_types.specs.declared.vpn.VpnRoute.{VpnRoute}
 use Rattle.path_select.specs.NodeModel.Keys.{Key, Vpn, of_up}
 use Rattle.path_select.specs.NodeModel.Values.{Value, Route, Label}
 use Rattle.path_select.specs.NodeModel.Maps.{Map}
-use Rattle.route_targets.specs.Numbers.{target_of}
-use Rattle.path_select.specs.NodeModel.Paths.{Holdings, Told, Path, own_path, peer_path, own_paths, peer_paths, has_target}
-use Rattle.path_select.specs.NodeModel.Reaching.{has_path_within}
-use Rattle.path_select.specs.NodeModel.Uses.{imports}
-use Rattle.vpn_tables.specs.Answers.{leads_within}
+use Rattle.path_select.specs.NodeModel.Paths.{Holdings, Told, Path, own_path, peer_path}
 use Rattle.vpn_tables.specs.declared.tables.Agent.{Agent}
 use Rattle.vpn_tables.specs.Views.{agent_of, peer_of, up_order, vpn_order}
 use Rattle.vpn_tables.proofs.Images.{told-entries, peer-entries}
@@ -55,49 +46,6 @@ peer_is session es sorted =
     ap (filter_map (λ (e : Key × Value). peer_path session e.0 e.1)) (peer-entries es sorted)
     ∙ filter_map-map (λ (e : Key × Value). peer_path session e.0 e.1) (moved_entry Vpn Route) es
 
--- ---- a test of the paths that pass another
-pub any-filter : (p q : Path → Bool) (xs : List Path) → list_any p (filter q xs) ≡ list_any (λ x. cond (q x) (p x) false) xs
-any-filter p q [] = refl
-any-filter p q (x ∷ xs) =
-    elim (q x) as (λ b. list_any p (cond b (x ∷ filter q xs) (filter q xs)) ≡ (cond b (p x) false || list_any (λ x. cond (q x) (p x) false) xs)) [
-      | true ↦ ap (λ b. p x || b) (any-filter p q xs)
-      | false ↦ any-filter p q xs
-    ]
-
-pub any-append : (p : Path → Bool) (xs ys : List Path) → list_any p (xs ++ ys) ≡ (list_any p xs || list_any p ys)
-any-append p [] ys = refl
-any-append p (x ∷ xs) ys = ap (λ b. p x || b) (any-append p xs ys) ∙ sym (or_assoc (p x) (list_any p xs) (list_any p ys))
-
--- ---- turns of a walk
--- a first part without, and the parts that are left
-pub part_without : (p : Path → Bool) (xs ys : List Path) (whole : Bool) → list_any p xs ≡ false → list_any p (xs ++ ys) ≡ whole → list_any p ys ≡ whole
-part_without p xs ys whole e h = sym (any-append p xs ys ∙ ap (λ b. b || list_any p ys) e) ∙ h
-
-pub part_with : (p : Path → Bool) (xs ys : List Path) (whole : Bool) → list_any p xs ≡ true → list_any p (xs ++ ys) ≡ whole → true ≡ whole
-part_with p xs ys whole e h = sym (any-append p xs ys ∙ ap (λ b. b || list_any p ys) e) ∙ h
-
-pub one_with : (p : Path → Bool) (o : Option Path) (x : Path) (ys : List Path) (whole : Bool) → o ≡ Some x → p x ≡ true → list_any p (cons_option o ys) ≡ whole → true ≡ whole
-one_with p o x ys whole is e h = sym (ap (λ (o : Option Path). list_any p (cons_option o ys)) is ∙ ap (λ b. b || list_any p ys) e) ∙ h
-
-pub none_first : (p : Path → Bool) (o : Option Path) (ys : List Path) (whole : Bool) → o ≡ None → list_any p (cons_option o ys) ≡ whole → list_any p ys ≡ whole
-none_first p o ys whole is h = sym (ap (λ (o : Option Path). list_any p (cons_option o ys)) is) ∙ h
-
-pub first_with : (p : Path → Bool) (o : Option Path) (ys : List Path) (whole : Bool) → list_any p (cons_option o []) ≡ true → list_any p (cons_option o ys) ≡ whole → true ≡ whole
-first_with p None ys whole e h = absurd (true≢false (sym e))
-first_with p (Some x) ys whole e h = sym (ap (λ b. b || list_any p ys) (alone (p x) e)) ∙ h
-  where
-    alone : (b : Bool) → (b || false) ≡ true → b ≡ true
-    alone true e = refl
-    alone false e = e
-
-pub first_without : (p : Path → Bool) (o : Option Path) (ys : List Path) (whole : Bool) → list_any p (cons_option o []) ≡ false → list_any p (cons_option o ys) ≡ whole → list_any p ys ≡ whole
-first_without p None ys whole e h = h
-first_without p (Some x) ys whole e h = sym (ap (λ b. b || list_any p ys) (alone (p x) e)) ∙ h
-  where
-    alone : (b : Bool) → (b || false) ≡ false → b ≡ false
-    alone false e = refl
-    alone true e = e
-
 one_on : (k : ℕ) → 1 + k + 1 ≡ 1 + (k + 1)
 one_on k = omega arith
 
@@ -109,8 +57,3 @@ pub peers_turn : (items : List (List (VpnKey × VpnRoute))) (k : ℕ) (x : List 
 peers_turn items k x lt e =
     ap (λ (l : List (List (VpnKey × VpnRoute))). peers_from (1 + k) (map peer_of l)) (drop-cons items k x lt ∙ ap (λ (y : List (VpnKey × VpnRoute)). y ∷ drop (suc k) items) (sym e))
     ∙ (λ i. filter_map (λ e. peer_path (1 + k) e.0 e.1) (entries (peer_of x)) ++ peers_from (one_on k i) (map peer_of (drop (next_place k i) items)))
-
-pub path_within : (h : Holdings) (i : InstanceId) (subnet : Block) → has_path_within h i subnet ≡ (list_any (leads_within h i subnet) (own_paths h) || list_any (leads_within h i subnet) (peer_paths h))
-path_within h i subnet =
-    any-filter (λ p. is_inside p.prefix subnet) (has_target (map (target_of h.asn) (imports h.feed i))) (own_paths h ++ peer_paths h)
-    ∙ any-append (leads_within h i subnet) (own_paths h) (peer_paths h)

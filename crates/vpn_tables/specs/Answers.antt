@@ -5,12 +5,11 @@ use Rattle.std.specs.declared.option.Option.TheVariants.{Some, None}
 use Rattle.std.specs.Option.{option_map}
 use Rattle.std.specs.List.{list_any}
 use Rattle.std.specs.FinMap.{entries}
-use Rattle.ov_types.specs.Prefix.{Block, is_inside}
+use Rattle.ov_types.specs.Prefix.{Block}
 use Rattle.ov_types.specs.declared.numbers.InstanceId.{InstanceId}
 use Rattle.ov_types.specs.declared.objects.LowKey.TheVariants as key
 use Rattle.ov_types.specs.declared.rows.TableRow.{TableRow}
 use Rattle.route_targets.specs.Numbers.{target_of}
-use Rattle.path_select.specs.NodeModel.Keys.{Key, Publish}
 use Rattle.path_select.specs.NodeModel.Maps.{Map, object}
 use Rattle.path_select.specs.NodeModel.Uses.{Use, use_from, use_of, place_of, is_hop, imports}
 use Rattle.path_select.specs.NodeModel.Paths.{Holdings, Path, has_target}
@@ -43,15 +42,6 @@ is_up_at h i subnet is_right =
 -- ---- a path has the target of an import
 abbrev pub is_wanted : Holdings → InstanceId → Path → Bool
 is_wanted h i = has_target (map (target_of h.asn) (imports h.feed i))
-
--- and lies within a subnet
-abbrev pub leads_within : Holdings → InstanceId → Block → Path → Bool
-leads_within h i subnet p = if is_wanted h i p then is_inside p.prefix subnet else false
-
--- what a key publishes lies within a subnet
-abbrev pub publishes_within : Block → Key → Bool
-publishes_within subnet (Publish i prefix) = is_inside prefix subnet
-publishes_within subnet _ = false
 
 -- ---- the rows of an instance, in the order of their prefixes
 abbrev pub rows_at : Holdings → InstanceId → List (Block × TableRow)

@@ -18,15 +18,11 @@ use Rattle.path_select.specs.NodeModel.Reaching.{Side, circuit_at, hop_at, is_up
 use Rattle.path_select.specs.NodeModel.Tables.{of_prefix, paths_of, same_prefix, table, table_row}
 use Rattle.path_select.specs.declared.selection.Path.{Path}
 use Rattle.path_select.specs.Selection.{is_better, plain}
-use Rattle.vpn_tables.specs.Answers.{distance, is_wanted, side_at}
+use Rattle.vpn_tables.specs.Answers.{distance, side_at}
 
 -- the row of an instance for a prefix
 abbrev pub row_at : Holdings → InstanceId → Block → Option TableRow
 row_at h i prefix = option_map table_row (get (table h i) prefix)
-
--- a path has the target of an import, and is to this prefix
-abbrev pub is_wanted_at : Holdings → InstanceId → Block → model.Path → Bool
-is_wanted_at h i prefix p = is_wanted h i p && same_prefix p.prefix prefix
 
 -- what a key publishes is to this prefix
 abbrev pub publishes_to : Block → Key → Bool

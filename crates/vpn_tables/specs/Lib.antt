@@ -12,9 +12,10 @@ pub mod Least
 pub mod Leading
 pub mod Listing
 pub mod At
-pub mod Imported
 pub mod Moved
 pub mod Touched
 pub mod TouchedKeys
+pub mod Indexed
 pub mod Gathered
 pub mod NodeModel
+pub mod ControlSilentAgentLaws

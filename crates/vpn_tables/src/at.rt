@@ -1,43 +1,28 @@
 //! The row of an instance for one prefix: one walk over the paths to that prefix.
 ghost use Rattle.std.specs.Prelude.{◌≡◌, ◌↔◌, ◌≤◌, ◌++◌, [], IsTrue, OnOk, IfOk, map};
-ghost use Rattle.std.specs.List.{cons_option, filter, filter_map, list_any};
+ghost use Rattle.std.specs.List.{cons_option, list_any};
 ghost use Rattle.std.specs.Option.{option_map};
-ghost use Rattle.std.specs.FinMap.{entries};
-ghost use Rattle.path_select.specs.NodeModel.Keys.{Vpn, of_up};
+ghost use Rattle.path_select.specs.NodeModel.Keys.{of_up};
 ghost use Rattle.path_select.specs.NodeModel.Members.{Member};
-ghost use Rattle.path_select.specs.NodeModel.Paths.{own_path, own_paths, peer_path, peer_paths};
 ghost use Rattle.path_select.specs.NodeModel.Reaching.{subnets};
 ghost use Rattle.path_select.specs.NodeModel.Tables.{same_prefix};
-ghost use Rattle.path_select.specs.NodeModel.Values.{Label as LabelOf, Route as RouteOf};
 ghost use Rattle.path_select.specs.declared.selection.Path.{Path as PathOf};
 ghost use Rattle.path_select.specs.Selection.{plain};
 ghost use Rattle.vpn_tables.specs.At.{IsChosen, led_at, led_from, paths_at, publishes_to, row_at, shown};
-ghost use Rattle.vpn_tables.specs.Imported.{is_imported_at};
+ghost use Rattle.vpn_tables.specs.Indexed.{received_at};
 ghost use Rattle.vpn_tables.specs.Routes.{path_of};
-ghost use Rattle.vpn_tables.specs.Views.{agent_of, peer_of};
 
 use crate::chains::Side;
-use crate::imports::Imports;
 use crate::reaching::is_among;
+use crate::received::{keep, push_labels, push_routes};
 use crate::routes::{Route, is_same};
-use crate::tables::{Agent, VpnTables};
-use ov_sync::SyncIn;
-use ov_types::{InstanceId, Label, NoMemory, Prefix, TableRow, UpKey, VpnKey, VpnRoute};
+use crate::tables::VpnTables;
+use ov_types::{InstanceId, NoMemory, Prefix, TableRow, UpKey};
 use path_select::{Path, select};
 use route_targets::{UseHop, hop_of, rd, target};
 
 /// The session that a re-originated path counts as of.
 const OWN_SESSION: u16 = 65535;
-
-/// Appends a path, where there is one.
-fn keep(paths: &mut Vec<Path>, path: Option<Path>) -> Result<(), NoMemory>
-    ensures { OnOk result (paths.new.items ≡ paths.old.items ++ cons_option path []) }
-{
-    if let Some(path) = path {
-        paths.push(path)?;
-    }
-    Ok(())
-}
 
 /// The path that is used.
 fn best_of(paths: &[Path]) -> Option<Path>
@@ -71,8 +56,7 @@ pub(crate) fn is_to(key: &UpKey, prefix: &Prefix) -> bool
 }
 
 impl VpnTables {
-    /// The row of an instance for a prefix, where it has one: what `table` has there. It looks at the paths to the
-    /// prefix alone, and for an instance of a hop at its own use alone.
+    /// The row of an instance for a prefix, where it has one: what `table` has there. It looks at what `paths_at` does.
     pub fn row(&self, i: InstanceId, prefix: &Prefix) -> Result<Option<TableRow>, NoMemory>
         ensures { IfOk result (λ row. row ≡ row_at self.now i prefix.now) }
     {
@@ -81,133 +65,30 @@ impl VpnTables {
         Ok(row_of(best))
     }
 
-    /// The paths of an instance to a prefix, in some order: the received ones, and the re-originated ones.
+    /// The paths of an instance to a prefix, in some order: the received ones, and the re-originated ones. It looks at
+    /// what was told with this prefix alone, and for a place of a use at what was told within it too.
     pub fn paths_at(&self, i: InstanceId, prefix: &Prefix) -> Result<Vec<Path>, NoMemory>
         ensures { IfOk result (λ paths. (p : PathOf)
             → Member p paths.items ↔ Member p (paths_at self.now i prefix.now)) }
     {
-        let mut paths = Vec::new(self.alloc);
-        let imports = self.imported(i);
-        self.push_agents(&mut paths, &imports, prefix)?;
-        self.push_peers(&mut paths, &imports, prefix)?;
+        self.uses_are_short();
+        let mut paths = self.received_at(i, prefix)?;
         self.push_led(&mut paths, i, prefix, true)?;
         self.push_led(&mut paths, i, prefix, false)?;
         Ok(paths)
     }
 
-    fn push_agents(
-        &self,
-        paths: &mut Vec<Path>,
-        imports: &Imports<'_>,
-        prefix: &Prefix,
-    ) -> Result<(), NoMemory>
-        ensures { OnOk result (paths.new.items ≡ paths.old.items
-            ++ map plain (filter (is_imported_at imports.now prefix.now) (own_paths self.now))) }
+    /// The paths of an instance to a prefix, of those that it received, in some order. It looks at what was told with
+    /// this prefix alone.
+    pub fn received_at(&self, i: InstanceId, prefix: &Prefix) -> Result<Vec<Path>, NoMemory>
+        ensures { IfOk result (λ paths. (p : PathOf)
+            → Member p paths.items ↔ Member p (received_at self.now i prefix.now)) }
     {
-        for agent in &self.agents {
-            self.push_agent(paths, agent, imports, prefix)?;
-        }
-        Ok(())
-    }
-
-    fn push_agent(
-        &self,
-        paths: &mut Vec<Path>,
-        agent: &Agent,
-        imports: &Imports<'_>,
-        prefix: &Prefix,
-    ) -> Result<(), NoMemory>
-        ensures { OnOk result (paths.new.items ≡ paths.old.items
-            ++ map plain (filter (is_imported_at imports.now prefix.now)
-            (filter_map (λ e. own_path self.now (agent_of agent.now) e.0 e.1) (entries (agent_of agent.now).map)))) }
-    {
-        for (key, label) in agent.told.iter() {
-            let path = self.own_at(agent, key, *label, imports, prefix);
-            keep(paths, path)?;
-        }
-        Ok(())
-    }
-
-    /// The path of a publication, where it is to the prefix and the instance imports it.
-    fn own_at(
-        &self,
-        agent: &Agent,
-        key: &UpKey,
-        label: Label,
-        imports: &Imports<'_>,
-        prefix: &Prefix,
-    ) -> Option<Path>
-        ensures { cons_option result [] ≡ map plain (filter (is_imported_at imports.now prefix.now)
-            (cons_option (own_path self.now (agent_of agent.now) (of_up key.now) (LabelOf label)) [])) }
-    {
-        if !is_to(key, prefix) {
-            return None;
-        }
-        let route = self.own_route(agent, key, label)?;
-        if !imports.has(route.target) {
-            return None;
-        }
-        Some(route.path)
-    }
-
-    fn push_peers(
-        &self,
-        paths: &mut Vec<Path>,
-        imports: &Imports<'_>,
-        prefix: &Prefix,
-    ) -> Result<(), NoMemory>
-        ensures { OnOk result (paths.new.items ≡ paths.old.items
-            ++ map plain (filter (is_imported_at imports.now prefix.now) (peer_paths self.now))) }
-    {
-        for (place, routes) in self.peers.iter().enumerate() {
-            self.push_peer(paths, 1 + place as u16, routes, imports, prefix)?;
-        }
-        Ok(())
-    }
-
-    fn push_peer(
-        &self,
-        paths: &mut Vec<Path>,
-        session: u16,
-        routes: &SyncIn<VpnKey, VpnRoute>,
-        imports: &Imports<'_>,
-        prefix: &Prefix,
-    ) -> Result<(), NoMemory>
-        ensures { OnOk result (paths.new.items ≡ paths.old.items
-            ++ map plain (filter (is_imported_at imports.now prefix.now)
-            (filter_map (λ e. peer_path session e.0 e.1) (entries (peer_of routes.now))))) }
-    {
-        for (key, route) in routes.iter() {
-            let path = self.told_at(session, key, route, imports, prefix);
-            keep(paths, path)?;
-        }
-        Ok(())
-    }
-
-    /// The path that a peer told, where it is to the prefix and the instance imports it.
-    fn told_at(
-        &self,
-        session: u16,
-        key: &VpnKey,
-        route: &VpnRoute,
-        imports: &Imports<'_>,
-        prefix: &Prefix,
-    ) -> Option<Path>
-        ensures { cons_option result [] ≡ map plain (filter (is_imported_at imports.now prefix.now)
-            (cons_option (peer_path session (Vpn key.now) (RouteOf route.now)) [])) }
-    {
-        if !is_same(&key.prefix, prefix) {
-            return None;
-        }
-        if !imports.has_any(route.targets.items()) {
-            return None;
-        }
-        Some(Path {
-            session,
-            rd: key.rd,
-            next_hop: route.next_hop,
-            label: route.label,
-        })
+        let mut paths = Vec::new(self.alloc);
+        let imports = self.imported(i);
+        push_routes(&mut paths, self, &self.routes, prefix, &imports)?;
+        push_labels(&mut paths, self, &self.labels, prefix, &imports)?;
+        Ok(paths)
     }
 
     fn push_led(

@@ -1,22 +1,14 @@
 //! Which subnets are reachable along a chain.
-ghost use Rattle.std.specs.Prelude.{◌≡◌, ◌≤◌, ◌<◌, ◌+◌, ◌&&◌, ◌||◌, ℕ, [], is_some, IfOk, map};
-ghost use Rattle.std.specs.List.{cons_option, list_any, filter_map};
-ghost use Rattle.std.specs.FinMap.{entries};
-ghost use Rattle.path_select.specs.NodeModel.Paths.{own_path, own_paths, peer_path, peer_paths};
+ghost use Rattle.std.specs.Prelude.{◌≡◌, ◌≤◌, ◌<◌, ◌+◌, ◌&&◌, ◌||◌, is_some, IfOk, map};
+ghost use Rattle.std.specs.List.{list_any};
 ghost use Rattle.path_select.specs.NodeModel.Reaching.{circuit_at, has_path_within, hop_at, is_up, publisher, subnets};
 ghost use Rattle.path_select.specs.NodeModel.Tables.{same_prefix};
-ghost use Rattle.path_select.specs.NodeModel.Keys.{of_up};
-ghost use Rattle.path_select.specs.NodeModel.Values.{Label as LabelOf};
-ghost use Rattle.vpn_tables.specs.Answers.{is_up_at, publishes_within};
-ghost use Rattle.vpn_tables.specs.Imported.{is_imported_within};
-ghost use Rattle.vpn_tables.specs.Views.{agent_of, peer_of};
+ghost use Rattle.vpn_tables.specs.Answers.{is_up_at};
 
 use crate::chains::Side;
-use crate::imports::Imports;
-use crate::routes::is_within;
-use crate::tables::{Agent, VpnTables};
-use ov_sync::SyncIn;
-use ov_types::{InstanceId, Label, NoMemory, Prefix, UpKey, VpnKey, VpnRoute};
+use crate::tables::VpnTables;
+use crate::within::{have_labels, have_routes};
+use ov_types::{InstanceId, NoMemory, Prefix};
 use route_targets::{UseHop, hop_of};
 
 /// Whether a subnet is among some.
@@ -29,16 +21,6 @@ pub(crate) fn is_among(subnet: &Prefix, subnets: &[Prefix]) -> bool
         }
     }
     false
-}
-
-/// Whether what a key publishes is within a subnet.
-fn publishes_within(key: &UpKey, subnet: &Prefix) -> bool
-    ensures { result ≡ publishes_within subnet.now (of_up key.now) }
-{
-    match key {
-        UpKey::Publish(_, prefix) => is_within(prefix, subnet),
-        UpKey::Subscribe(_) => false,
-    }
 }
 
 impl VpnTables {
@@ -111,96 +93,36 @@ impl VpnTables {
         ensures { result ≡ (has_path_within self.now (hop_at side.now distance) subnet.now
             || (is_some (publisher self.now (circuit_at side.now distance)) && nearer)) }
     {
-        if self.has_path_within(side.hop_at(distance), subnet) {
+        if nearer && self.is_published(side, distance) {
             return true;
         }
-        if self.publisher(side.circuit_at(distance)).is_none() {
-            return false;
-        }
-        nearer
+        self.has_path_within(side.hop_at(distance), subnet)
     }
 
+    /// Whether the circuit at a distance that leads towards the end is published here.
+    fn is_published(&self, side: &Side<'_>, distance: u8) -> bool
+        requires { distance ≤ side.now.chain.services }
+        ensures { result ≡ is_some (publisher self.now (circuit_at side.now distance)) }
+    {
+        self.publisher(side.circuit_at(distance)).is_some()
+    }
+
+    /// Whether an instance received a path within a subnet. It looks at what begins in the subnet alone.
     pub(crate) fn has_path_within(&self, i: InstanceId, subnet: &Prefix) -> bool
         ensures { result ≡ has_path_within self.now i subnet.now }
     {
         let imports = self.imported(i);
-        if self.has_own_within(&imports, subnet) {
-            return true;
-        }
-        self.has_peers_within(&imports, subnet)
+        let routes = have_routes(self, &self.routes, subnet, &imports);
+        let labels = have_labels(self, &self.labels, subnet, &imports);
+        either(routes, labels)
     }
+}
 
-    fn has_own_within(&self, imports: &Imports<'_>, subnet: &Prefix) -> bool
-        ensures { result ≡ list_any (is_imported_within imports.now subnet.now) (own_paths self.now) }
-    {
-        for agent in &self.agents {
-            if self.has_agents_within(agent, imports, subnet) {
-                return true;
-            }
-        }
-        false
+fn either(one: bool, other: bool) -> bool
+    ensures { result ≡ (one || other) }
+{
+    if one {
+        return true;
     }
-
-    fn has_agents_within(&self, agent: &Agent, imports: &Imports<'_>, subnet: &Prefix) -> bool
-        ensures { result ≡ list_any (is_imported_within imports.now subnet.now)
-            (filter_map (λ e. own_path self.now (agent_of agent.now) e.0 e.1) (entries (agent_of agent.now).map)) }
-    {
-        for (key, label) in agent.told.iter() {
-            if self.is_own_within(agent, key, *label, imports, subnet) {
-                return true;
-            }
-        }
-        false
-    }
-
-    /// Whether the path of a publication is within a subnet, and the instance imports it.
-    fn is_own_within(
-        &self,
-        agent: &Agent,
-        key: &UpKey,
-        label: Label,
-        imports: &Imports<'_>,
-        subnet: &Prefix,
-    ) -> bool
-        ensures { result ≡ list_any (is_imported_within imports.now subnet.now)
-            (cons_option (own_path self.now (agent_of agent.now) (of_up key.now) (LabelOf label)) []) }
-    {
-        if !publishes_within(key, subnet) {
-            return false;
-        }
-        match self.own_route(agent, key, label) {
-            Some(route) => imports.has(route.target),
-            None => false,
-        }
-    }
-
-    fn has_peers_within(&self, imports: &Imports<'_>, subnet: &Prefix) -> bool
-        ensures { result ≡ list_any (is_imported_within imports.now subnet.now) (peer_paths self.now) }
-    {
-        for routes in &self.peers {
-            if self.has_peer_within(routes, imports, subnet) {
-                return true;
-            }
-        }
-        false
-    }
-
-    fn has_peer_within(
-        &self,
-        routes: &SyncIn<VpnKey, VpnRoute>,
-        imports: &Imports<'_>,
-        subnet: &Prefix,
-    ) -> bool
-        ensures { (session : ℕ) → result ≡ list_any (is_imported_within imports.now subnet.now)
-            (filter_map (λ e. peer_path session e.0 e.1) (entries (peer_of routes.now))) }
-    {
-        for (key, route) in routes.iter() {
-            if is_within(&key.prefix, subnet) {
-                if imports.has_any(route.targets.items()) {
-                    return true;
-                }
-            }
-        }
-        false
-    }
+    other
 }

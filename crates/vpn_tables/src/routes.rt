@@ -2,7 +2,6 @@
 ghost use Rattle.std.specs.Prelude.{◌≡◌, ◌≤◌, ◌<◌, [], None, map};
 ghost use Rattle.std.specs.List.{cons_option, filter};
 ghost use Rattle.std.specs.Option.{option_map};
-ghost use Rattle.ov_types.specs.Prefix.{is_inside as is_inside_of};
 ghost use Rattle.path_select.specs.NodeModel.Keys.{of_up};
 ghost use Rattle.path_select.specs.NodeModel.Values.{Label as LabelOf};
 ghost use Rattle.path_select.specs.NodeModel.Reaching.{published_by, publisher};
@@ -25,12 +24,6 @@ pub struct Route {
     pub prefix: Prefix,
     pub path: Path,
     pub target: Target,
-}
-
-pub(crate) fn is_within(prefix: &Prefix, subnet: &Prefix) -> bool
-    ensures { result ≡ is_inside_of prefix.now subnet.now }
-{
-    prefix.within(subnet)
 }
 
 pub(crate) fn is_same(found: &Prefix, prefix: &Prefix) -> bool

@@ -14,7 +14,8 @@ use ov_sync::{Delta, SyncIn};
 use ov_types::{Addr, Label, NoMemory, UpKey, VpnKey, VpnRoute};
 use std::alloc::Global;
 
-type Peer = SyncIn<VpnKey, VpnRoute>;
+/// What a peer told.
+pub(crate) type Peer = SyncIn<VpnKey, VpnRoute>;
 
 /// Applies a change at a place. Places up to it that were not there hold nothing else.
 pub(crate) fn change_at(

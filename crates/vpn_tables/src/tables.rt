@@ -1,12 +1,19 @@
 //! What a control node holds.
-ghost use Rattle.std.specs.Prelude.{◌≡◌, OnOk, OnErr, IfSome, option_copied};
+ghost use Rattle.std.specs.Prelude.{◌≡◌, Some, true, OnOk, OnErr, IfSome, option_copied};
+ghost use Rattle.control_silent_agent_laws.specs.Quiet.{PublishesNothing};
 ghost use Rattle.ov_sync.specs.Keyed.{PutOf, IsPut};
 ghost use Rattle.path_select.specs.NodeModel.Maps.{object};
+ghost use Rattle.vpn_tables.specs.Listing.{told_in};
 ghost use Rattle.vpn_tables.specs.Ranges.{Fits};
 ghost use Rattle.vpn_tables.specs.Changes.{nothing, with_low, with_route, with_agent, with_publication, without};
 
+use crate::forgetting::{forget_labels, forget_routes};
+use crate::kept::{set_route, set_told};
+use crate::moved::told_key;
+use crate::places::{Labels, Routes, place_told};
 use crate::ports::{Objects, Ports, drop_object, put_object};
-use crate::sessions::{change_at, empty_agent, empty_at, name_agent, tell_agent};
+use crate::publishing::has_label;
+use crate::sessions::{empty_agent, empty_at, name_agent};
 use ov_sync::{Delta, SyncIn};
 use ov_types::{Addr, Label, LowKey, LowValue, NoMemory, UpKey, VpnKey, VpnRoute};
 use std::alloc::Global;
@@ -24,6 +31,10 @@ pub struct VpnTables {
     pub(crate) peers: Vec<SyncIn<VpnKey, VpnRoute>>,
     /// In the order of their sessions.
     pub(crate) agents: Vec<Agent>,
+    /// Where the routes of peers stand, by prefix.
+    pub(crate) routes: Routes,
+    /// Where the publications of agents stand, by prefix.
+    pub(crate) labels: Labels,
     pub(crate) alloc: Global,
 }
 
@@ -47,6 +58,7 @@ impl Model for VpnTables {
     ghost use Rattle.std.specs.Prelude.{◌≤◌, length, map};
     ghost use Rattle.ov_sync.specs.Keyed.{map_of, Values};
     ghost use Rattle.vpn_tables.specs.Ranges.{Fits};
+    ghost use Rattle.vpn_tables.specs.Indexed.{AreInOrder, AreLabels, AreRoutes};
     ghost use Rattle.vpn_tables.specs.Ports.{AreCounted};
     ghost use Rattle.vpn_tables.specs.Views.{low_order, feed_of, peer_of, agent_of};
 
@@ -58,7 +70,8 @@ impl Model for VpnTables {
     } };
 
     ghost invariant = { λ s. Values Fits (map_of low_order s.low.entries) × (length s.peers.items ≤ 65535)
-        × AreCounted s.ports (feed_of s.low.entries) };
+        × AreCounted s.ports (feed_of s.low.entries) × AreRoutes s.routes (map peer_of s.peers.items)
+        × AreLabels s.labels (map agent_of s.agents.items) × AreInOrder (map agent_of s.agents.items) };
 }
 
 impl VpnTables {
@@ -72,6 +85,8 @@ impl VpnTables {
             ports: BTreeMap::new(alloc),
             peers: Vec::new(alloc),
             agents: Vec::new(alloc),
+            routes: BTreeMap::new(alloc),
+            labels: BTreeMap::new(alloc),
             alloc,
         }
     }
@@ -104,7 +119,13 @@ impl VpnTables {
         if session == 0 {
             return Ok(());
         }
-        change_at(self.alloc, &mut self.peers, usize::from(session - 1), delta)?;
+        set_route(
+            self.alloc,
+            &mut self.peers,
+            &mut self.routes,
+            session,
+            delta,
+        )?;
         Ok(())
     }
 
@@ -126,7 +147,8 @@ impl VpnTables {
         ensures ok { OnOk result (self.new ≡ with_publication self.old session delta) }
         ensures err { OnErr result (self.new ≡ self.old) }
     {
-        tell_agent(&mut self.agents, session, delta)?;
+        let place = place_told(self, session, &told_key(&delta));
+        set_told(&mut self.agents, &mut self.labels, place, session, delta)?;
         Ok(())
     }
 
@@ -135,12 +157,22 @@ impl VpnTables {
         ensures { self.new ≡ without self.old session }
     {
         empty_agent(&mut self.agents, session);
+        forget_routes(&mut self.routes, session);
+        forget_labels(&mut self.labels, session);
         if session == 0 {
             self.low.clear();
             self.ports.clear();
             return;
         }
         empty_at(&mut self.peers, usize::from(session - 1));
+    }
+
+    /// Whether nothing is published on a session, whatever is subscribed. It takes no memory.
+    pub fn publishes_nothing(&self, session: u16) -> bool
+        ensures only_if_nothing { result ≡ true → PublishesNothing (told_in self.now.agents session).map }
+        ensures if_nothing { PublishesNothing (told_in self.now.agents session).map → result ≡ true }
+    {
+        !has_label(&self.labels, session)
     }
 
     /// The object that is held at a key. It takes no memory.

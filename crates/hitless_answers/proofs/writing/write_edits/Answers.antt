@@ -5,7 +5,7 @@ use Rattle.std.proofs.lemmas.Bool.{and_parts}
 use Rattle.ov_io.proofs.PieceLemmas.{cause_from, ends_cut, ends_whole, on_err, took_nothing, way_breaks, way_cut, way_goes_on}
 use Rattle.config_types.specs.Form.{has_edit_form}
 use Rattle.config_types.specs.declared.edit.Edit.{Edit}
-use Rattle.hitless_answers.proofs.Telling.{first_lines}
+use Rattle.hitless_answers.proofs.Telling.{first_in}
 use Rattle.hitless_answers.proofs.writing.write_edits.Goals as goal
 
 pub returns-in_err-judgement-clause-front : goal.returns-in_err-judgement-clause-front
@@ -19,7 +19,7 @@ returns-in_err-write_judgement-clause-front g c =
     let split : drop i edits ≡ c.index-edits-index.result ∷ drop (i + 1) edits = grind (arith, common_steps) in
     on_err c.from_residual-in_err-write_judgement.result _
     (way_breaks _ _ _ _ _ _ _ _ c.loop-index.invariant.way
-    (first_lines (i + 1) (drop i edits) (drop (i + 1) edits) _ _ _ _ split c.in_ok-judgement.ensures.judgement c.in_ok-judgement.ensures.next)
+    (first_in c.args.form (i + 1) (drop i edits) (drop (i + 1) edits) _ _ _ _ _ split c.in_ok-judgement.ensures.judgement c.in_ok-judgement.ensures.next c.config.ensures)
     c.in_err-write_judgement.ensures.front)
 
 pub loop-index-preserved : goal.loop-index-preserved
@@ -29,7 +29,7 @@ loop-index-preserved g c =
     let split : drop i edits ≡ c.index-edits-index.result ∷ drop (i + 1) edits = grind (arith, common_steps) in
     record {
       way = way_goes_on _ _ _ _ _ _ _ _ _ c.loop-index.invariant.way
-          (first_lines (i + 1) (drop i edits) (drop (i + 1) edits) _ _ _ _ split c.in_ok-judgement.ensures.judgement c.in_ok-judgement.ensures.next)
+          (first_in c.args.form (i + 1) (drop i edits) (drop (i + 1) edits) _ _ _ _ _ split c.in_ok-judgement.ensures.judgement c.in_ok-judgement.ensures.next c.config.ensures)
           c.in_ok-write_judgement.ensures.ok;
       form = (and_parts (has_edit_form c.index-edits-index.result) (list_all has_edit_form (drop (i + 1) edits))
           (subst (λ (xs : List Edit). list_all has_edit_form xs ≡ true) split c.loop-index.invariant.form)).1;

@@ -8,6 +8,6 @@ use Rattle.inspect_answers.proofs.diffing.answer_after.Goals as goal
 pub returns-in-Ok-clause-promise : goal.returns-in-Ok-clause-promise
 returns-in-Ok-clause-promise g c = λ first read.
     answered c.write_differences.result
-    (λ (found : Comparison). TookDifferences (status_found found) first c.args.after.now (g.K.Sink.taken c.args.sink.now) (g.K.Sink.taken c.write_differences.new.sink))
+    (λ (found : Comparison). TookDifferences c.args.form (status_found found) first c.args.after.now (g.K.Sink.taken c.args.sink.now) (g.K.Sink.taken c.write_differences.new.sink))
     (λ (found : Comparison). IsAnswered (status_found found))
     (c.write_differences.ensures.promise first c.args.after.now read c.in-Ok.ensures.read)

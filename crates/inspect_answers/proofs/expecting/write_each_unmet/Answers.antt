@@ -11,7 +11,7 @@ returns-in_err-count-clause-front g c =
     let i = c.loop-index.index in
     let left = drop_at c.args.packets.now i c.index-packets-index.result c.loop-index-test.true c.index-packets-index.is in
     on_err c.from_residual.result _ (way_breaks _ _ _ _ _ _ _ _ c.loop-index.invariant.way
-    (ap (unmet_from c.args.valid.now.config (i + 1)) left) c.in_err-count.ensures.front)
+    (ap (unmet_from c.args.form c.args.valid.now.config (i + 1)) left) c.in_err-count.ensures.front)
 
 pub loop-index-preserved : goal.loop-index-preserved
 loop-index-preserved g c =
@@ -24,7 +24,7 @@ loop-index-preserved g c =
     ap (unmet_count config) left ∙ sum_by-cons (λ e. cond (not (comes_so config e)) 1 0) item rest
     ∙ ap (λ n. n + unmet_count config rest) (sym (one_alone config item)) in
     record {
-      way = way_goes_on _ _ _ _ _ _ _ _ _ c.loop-index.invariant.way (ap (unmet_from config (i + 1)) left) c.in_ok-count.ensures.ok;
+      way = way_goes_on _ _ _ _ _ _ _ _ _ c.loop-index.invariant.way (ap (unmet_from c.args.form config (i + 1)) left) c.in_ok-count.ensures.ok;
       count = omega (arith, more, c.loop-index.invariant.count, c.in_ok-count.ensures.count);
       few = omega (arith, c.loop-index.invariant.few, c.in_ok-count.ensures.one);
       kept = c.in_ok-count.ensures.cause ∙ c.loop-index.invariant.kept;

@@ -7,7 +7,7 @@ use Rattle.inspect_answers.proofs.explaining.write_packets.Goals as goal
 pub returns-in_err-write_packet-clause-front : goal.returns-in_err-write_packet-clause-front
 returns-in_err-write_packet-clause-front g c =
     let i = c.loop-index.index in
-    let rest = packets_from c.args.valid.now.config (i + 1 + 1) (drop (i + 1) c.args.packets.now) in
+    let rest = packets_from c.args.form c.args.valid.now.config (i + 1 + 1) (drop (i + 1) c.args.packets.now) in
     on_err c.from_residual.result _ (way_breaks _ _ _ _ _ _ rest _ c.loop-index.invariant.way (grind (arith, common_steps)) c.in_err-write_packet.ensures.front)
 
 pub loop-index-preserved : goal.loop-index-preserved

@@ -1,6 +1,5 @@
 use Rattle.std.proofs.Common.{◌≡◌, ◌+◌, ◌∙◌, ap, arith, length, subst, sym, get_or, set, suc, None, []}
 use Rattle.ov_link.specs.declared.step.Input.TheVariants as input
-use Rattle.node_core.specs.NodeModel.Paths.{Holdings}
 use Rattle.node_core.specs.NodeModel.Step.{post}
 use Rattle.vpn_tables.specs.Listing.{told_in}
 use Rattle.control_node.specs.Begun.{IsBegun}
@@ -36,7 +35,7 @@ invariant_of-self c =
     let is = all-at IsAgentEnd inside.agents.items c.args.place e c.self.invariant.ends.agent_ends lt in
     let n = many (λ (e : PeerEnd). e.session.peer) inside.peers.items c.args.self.now.plan.peers (ap (λ (v : Ends). v.plan.peers) c.self.view_is) in
     let at : 1 + length inside.peers.items + c.args.place ≡ c.args.session = omega (arith, n, c.requires.session) in
-    let address = ap (λ s. (told_in inside.tables.agents s).address) at ∙ sym (c.address_of.ensures ∙ ap (λ (h : Holdings). (told_in h.agents c.args.session).address) c.held.ensures) in
+    let address = ap (λ s. (told_in inside.tables.agents s).address) at ∙ sym c.address_of.ensures in
     record {
       ends = ends-agent inside.me inside.asn inside.feed inside.peers.items inside.agents.items inside.tables inside.tables c.self.invariant.ends (stays-same inside.tables)
           c.args.place c.greet_agent.new.end e lt
@@ -62,7 +61,7 @@ invariant_of-self-2 c =
     let is = all-at IsAgentEnd inside.agents.items c.args.place e c.self.invariant.ends.agent_ends lt in
     let n = many (λ (e : PeerEnd). e.session.peer) inside.peers.items c.args.self.now.plan.peers (ap (λ (v : Ends). v.plan.peers) c.self.view_is) in
     let at : 1 + length inside.peers.items + c.args.place ≡ c.args.session = omega (arith, n, c.requires.session) in
-    let address = ap (λ s. (told_in inside.tables.agents s).address) at ∙ sym (c.address_of.ensures ∙ ap (λ (h : Holdings). (told_in h.agents c.args.session).address) c.held.ensures) in
+    let address = ap (λ s. (told_in inside.tables.agents s).address) at ∙ sym c.address_of.ensures in
     record {
       ends = ends-agent inside.me inside.asn inside.feed inside.peers.items inside.agents.items inside.tables inside.tables c.self.invariant.ends (stays-same inside.tables)
           c.args.place c.greet_agent.new.end e lt

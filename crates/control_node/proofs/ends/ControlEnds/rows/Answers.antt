@@ -16,8 +16,8 @@ use Rattle.control_node.proofs.ends.ControlEnds.rows.Goals as goal
 pub returns-clause-shown : goal.returns-clause-shown
 returns-clause-shown c =
     let inside = c.self.inside in
-    if_ok c.rows.result (λ shown. shown ≡ rows c.held.result.now) _
-    (λ shown e. e ∙ ap rows c.held.ensures
+    if_ok c.rows.result (λ shown. shown ≡ rows inside.tables) _
+    (λ shown e. e
     ∙ ap rows (sym (holdings_are inside.me inside.asn inside.feed inside.peers.items inside.agents.items inside.tables c.self.invariant.ends))
     ∙ ap (λ (v : Ends). rows (holdings v.plan v.posts)) c.self.view_is)
     c.rows.ensures
@@ -25,7 +25,7 @@ returns-clause-shown c =
 pub returns-clause-ascending : goal.returns-clause-ascending
 returns-clause-ascending c =
     let inside = c.self.inside in
-    if_ok c.rows.result (λ shown. shown ≡ rows c.held.result.now) _
+    if_ok c.rows.result (λ shown. shown ≡ rows inside.tables) _
     (λ shown e. subst (λ (rows : List ((InstanceId × Block) × TableRow)). IsStrictlySortedBy row_key_cmp (map (λ row. row.0) rows))
-    (sym (e ∙ ap rows c.held.ensures)) (rows_ascend inside.tables c.self.invariant.ends.fit))
+    (sym e) (rows_ascend inside.tables c.self.invariant.ends.fit))
     c.rows.ensures

@@ -35,6 +35,9 @@ invariant_of-self c =
           (λ is. subst (λ (l : List (LowKey × LowValue)). Values Fits (map_of low_order l)) (sym is) c.self.invariant.0),
       c.self.invariant.1,
       c.put_object.ensures.counted,
+      c.self.invariant.3,
+      c.self.invariant.4,
+      c.self.invariant.5,
     )
 
 pub invariant_of-self-in-Drop : goal.invariant_of-self-in-Drop
@@ -42,6 +45,9 @@ invariant_of-self-in-Drop c = (
   values_after Fits c.self.inside.low.entries c.drop_object.new.low.entries (Drop c.in-Drop.key) c.drop_object.ensures.dropped c.self.invariant.0 tt,
   c.self.invariant.1,
   c.drop_object.ensures.counted,
+  c.self.invariant.3,
+  c.self.invariant.4,
+  c.self.invariant.5,
 )
 
 pub returns-in-Put-clause-ok : goal.returns-in-Put-clause-ok

@@ -1,0 +1,27 @@
+-- Whatever an input is read as has a configuration of the written form.
+use Rattle.std.specs.Prelude.{◌≡◌, ℕ, List, [], Some, Result, Ok, IsTrue}
+use Rattle.serde_json.specs.Data.{Data}
+use Rattle.ov_json.specs.Json.{json_of}
+use Rattle.config_types.specs.Form.{has_config_form}
+use Rattle.config_types.specs.declared.config.Config.{Config}
+use Rattle.config_model.specs.Faults.{Fault}
+use Rattle.config_model.specs.Input.{compile_at, reach_at}
+use Rattle.inspect_answers.specs.Expectations.{expect_at}
+
+-- whatever a value is read as has a configuration of the written form
+unfoldable pub ReadsInForm : {Input : Type 0} → (Data → Result Input Fault) → (Input → Config) → Data → Type 0
+ReadsInForm {Input} read config d = (input : Input) → read d ≡ Ok input → IsTrue (has_config_form (config input))
+
+-- so has whatever octets are read as, if they are JSON
+unfoldable pub AreInForm : {Input : Type 0} → (Data → Result Input Fault) → (Input → Config) → List ℕ → Type 0
+AreInForm read config octets = (d : Data) → json_of octets ≡ Some d → ReadsInForm read config d
+
+-- of what `ways` and `unused` take, of what `expect` takes, and of what `why` takes
+abbrev pub AreWrittenInForm : List ℕ → Type 0
+AreWrittenInForm octets = AreInForm (compile_at []) (λ p. p.config) octets
+
+abbrev pub AreExpectedInForm : List ℕ → Type 0
+AreExpectedInForm octets = AreInForm (expect_at []) (λ r. r.input.config) octets
+
+abbrev pub AreAskedInForm : List ℕ → Type 0
+AreAskedInForm octets = AreInForm (reach_at []) (λ r. r.input.config) octets

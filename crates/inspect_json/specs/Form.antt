@@ -1,0 +1,13 @@
+-- A value as a line of JSON, and what its text reads as.
+use Rattle.std.specs.Prelude.{◌≡◌, ℕ, List, [], ◌∷◌, ◌++◌, Some}
+use Rattle.serde_json.specs.Data.{Data}
+use Rattle.serde_json.specs.Written.{compact_text}
+use Rattle.ov_json.specs.Json.{json_of}
+
+-- the text of a value, with no space, as a line
+unfoldable pub json_line : Data → List ℕ
+json_line d = compact_text d ++ (10 ∷ [])
+
+-- the text of a value is JSON, and reads as that value
+abbrev pub IsReadBack : Data → Type 0
+IsReadBack d = json_of (compact_text d) ≡ Some d

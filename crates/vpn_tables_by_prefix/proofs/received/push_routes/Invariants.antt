@@ -1,7 +1,0 @@
-use Rattle.std.proofs.Common.{◌≡◌, ◌++◌}
-use Rattle.std.specs.List.{filter, filter_map}
-use Rattle.vpn_tables_by_prefix.specs.Indexed.{is_route_to, route_path, wanted_by}
-use Rattle.vpn_tables_by_prefix.proofs.received.push_routes.Given as goal
-
-abbrev pub invariant-loop-at : goal.invariant-loop-at
-invariant-loop-at l = l.paths.items ++ filter_map (route_path (wanted_by l.held l.i)) l.at-iterator ≡ l.fn.paths.items ++ filter_map (route_path (wanted_by l.held l.i)) (filter (λ e. is_route_to l.prefix e.0) l.routes.entries)
