@@ -90,8 +90,23 @@ class Names:
             return f"{place} {value['reading']}"
         return f"{place} forwards {value['forwards']} mirrored {value['mirrored'] or '-'}"
 
+    def owner(self, value):
+        """What a table is of."""
+        if value is None:
+            return "-"
+        return f"network {value['name']}" if value["kind"] == "network" else f"{value['kind']} {value['use']} hop {value['hop']}"
+
+    def step(self, value):
+        """A step of a walk."""
+        row, to = value["row"], value["to"]
+        if to:
+            self.check(f"{to['kind']}s", to, "id", "name")
+        taken = f"{row['prefix']} {row['next_hop']} {row['label']}" if row else "-"
+        leads = f"{to['kind']} {to['name'] or '-'}" if to else "-"
+        return f"agent {value['agent'] or '-'} table {value['table']} {taken} of {self.owner(value['of'])} to {leads}"
+
     def explained(self, value):
-        told = [self.outcome(value["outcome"])] + [self.cause(it) for it in value["causes"]]
+        told = [self.outcome(value["outcome"])] + [self.cause(it) for it in value["causes"]] + [self.step(it) for it in value["walk"]]
         return "\n".join(f"{value['packet']} {it}" for it in told)
 
     def idle(self, value):

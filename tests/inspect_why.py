@@ -1,17 +1,21 @@
 #!/usr/bin/env python3
-"""Compares `inspect why` with `overlay reach`, and with the networks, the rules and the conditions that are found here.
+"""Compares `inspect why` with `overlay reach`, and with the networks, the rules, the conditions and the walks that are found here.
 
 usage: tests/inspect_why.py PROGRAM OVERLAY [COUNT [SEED]]
 
 PROGRAM is the built `inspect`, OVERLAY the built `overlay`. COUNT random documents are made (50 where none is given), as those of
 tests/inspect_expect.py without what is expected. The lines of outcomes are to be those that `overlay reach` prints. What is to stand
 below each is found here: the two networks, each rule that is asked before the one that decides with the first condition that fails
-forwards and mirrored, and that one; or the policies of the packet's network and each network that holds the address. Then each
-document is spoilt, and has to be refused as `overlay reach` refuses it. Needs Python 3.8. Ends with status 1 where something differs.
+forwards and mirrored, and that one; or the policies of the packet's network and each network that holds the address. Its walk is
+found in the lines that `overlay compile` prints of agents: by their labels, their access lists and the longest prefix of their
+tables. With `--json` there is to be a line for each packet, with its number and the same walk (tests/inspect_json.py holds the rest of
+these lines against the text). Then each document is spoilt, and has to be refused as `overlay reach` refuses it. Needs Python 3.8. Ends
+with status 1 where something differs.
 """
 import collections
 import copy
 import ipaddress
+import json
 import random
 import sys
 
@@ -100,20 +104,132 @@ def causes(configuration, packet):
         yield from asked(configuration, packet, own, near[0])
 
 
-def told(doc, outcomes):
+class Agent:
+    """An agent by the lines of `compile`: what is under its labels, its access lists, and its tables."""
+
+    def __init__(self, node):
+        self.name, self.address = node["name"], node["address"]
+        self.labels, self.lists, self.tables = {}, {}, collections.defaultdict(list)
+
+    def take(self, words):
+        if words[0] == "label":
+            self.labels[int(words[1])] = (words[2], int(words[3]), int(words[5]))
+        elif words[0] == "table":
+            self.tables[int(words[1])].append((ipaddress.ip_network(words[2]), words[2:]))
+        elif words[3] == "subnets":
+            subnets = [] if words[4] == "-" else words[4].split(",")
+            self.lists[int(words[1]), int(words[2])] = ([ipaddress.ip_network(it) for it in subnets], [])
+        else:
+            self.lists[int(words[1]), int(words[2])][1].append(words[5:])
+
+    def verdict(self, network, packet):
+        """The instance that a packet from a network goes on in, or none."""
+        address = ipaddress.ip_address(packet["to"])
+        towards = [to for (own, to), (subnets, _) in self.lists.items() if own == network and any(address in it for it in subnets)]
+        if not towards:
+            return None
+        if min(towards) == network:
+            return network
+        for protocol, sports, dports, *done in self.lists[network, min(towards)][1]:
+            ends = [[int(end) for end in ports.split("-")] for ports in (sports, dports)]
+            if protocol in ("any", str(packet["protocol"])) and within(ends[0], packet["sport"]) and within(ends[1], packet["dport"]):
+                return {"pass": network, "deny": None, "enter": int(done[-1]) if done[1:] else None}[done[0]]
+        return None
+
+    def row(self, table, address):
+        """The words of the row with the longest prefix that contains an address, or none."""
+        rows = [it for it in self.tables[table] if ipaddress.ip_address(address) in it[0]]
+        return max(rows, key=lambda it: it[0].prefixlen)[1] if rows else None
+
+
+def compiled(overlay, doc):
+    output = run(overlay, ["compile"], {"topology": doc["topology"], "configuration": doc["configuration"]})[1]
+    agents = [Agent(node) for node in doc["topology"]["nodes"]]
+    for line in output.splitlines():
+        words = line.split()
+        for agent in agents:
+            if words[:2] == ["agent", agent.name]:
+                agent.take(words[2:])
+    return agents
+
+
+def owner(configuration, table):
+    """What a table is of, as text and as a value."""
+    if table < 16384:
+        name = named(configuration["networks"], table)
+        return "network " + name, {"kind": "network", "name": name}
+    use, hop = divmod(table - 16384, 16)
+    return f"use {use} hop {hop}", {"hop": hop, "kind": "use", "use": use}
+
+
+def named(things, number):
+    return next(it["name"] for it in things if it["id"] == number)
+
+
+def walk(configuration, agents, packet):
+    """The steps of a packet, each as text and as a value."""
+    at = next((it for it in agents if it.labels.get(16 + packet["port"], ("", 0, 0))[0] == "port"), None)
+    table = at and at.verdict(at.labels[16 + packet["port"]][2], packet)
+    while table:
+        row, to, further = at.row(table, packet["to"]), None, None
+        of, value = owner(configuration, table)
+        line = f"agent {at.name} table {table} {' '.join(row or '-')} of {of}"
+        step = {"agent": at.name, "of": value, "row": None, "table": table}
+        if row:
+            step["row"] = {"label": int(row[2]), "next_hop": row[1], "prefix": row[0]}
+            at = next(it for it in agents if it.address == row[1])
+            kind, number, third = at.labels[int(row[2])]
+            if kind == "port":
+                to = {"id": number, "kind": "port", "name": named(configuration["ports"], number)}
+            else:
+                to = {"id": third, "kind": "service", "name": named(configuration["services"], third)}
+                further = (number - 1 if number % 2 == 0 else number + 1) // 2
+        yield f"{line} to " + (f"{to['kind']} {to['name']}" if to else "-"), {**step, "to": to}
+        table = further
+
+
+def told(doc, agents, outcomes):
     for number, (packet, outcome) in enumerate(zip(doc["packets"], outcomes), 1):
         yield outcome
         for cause in causes(doc["configuration"], packet):
             yield f"{number} {cause}\n"
+        for step, _ in walk(doc["configuration"], agents, packet):
+            yield f"{number} {step}\n"
+
+
+def walks_in(lines):
+    """The number and the walk of each line of JSON."""
+    values = [json.loads(line) for line in lines.splitlines()]
+    return [(value["packet"], value["walk"]) for value in values]
+
+
+def walked(doc, agents):
+    for number, packet in enumerate(doc["packets"], 1):
+        yield number, [value for _, value in walk(doc["configuration"], agents, packet)]
+
+
+def spread(chance, doc):
+    """The document with its ports and services at several compute nodes."""
+    names = [f"n{number}" for number in range(1, chance.randint(1, 4) + 1)]
+    doc["topology"]["nodes"] = [
+        {"name": name, "address": f"192.0.2.{10 + number}", "controllers": ["c1"]} for number, name in enumerate(names, 1)
+    ]
+    for thing in doc["configuration"]["ports"] + doc["configuration"]["services"]:
+        thing["node"] = chance.choice(names)
+    return doc
 
 
 def differences(program, overlay, doc, chance, words):
     status, output = run(overlay, ["reach"], doc)
     outcomes = output.splitlines(keepends=True)
-    expected = output if status else "".join(told(doc, outcomes))
+    agents = [] if status else compiled(overlay, doc)
+    expected = output if status else "".join(told(doc, agents, outcomes))
     found, wrong = run(program, ["why", "-"], doc), []
     if found != (status, expected):
         wrong.append(f"status {found[0]}: {found[1]} and not {status}: {expected}")
+    json_status, lines = run(program, ["why", "--json", "-"], doc)
+    if json_status != status or (lines != output if status else walks_in(lines) != list(walked(doc, agents))):
+        wrong.append(f"with --json status {json_status}: {lines} and not {status}: {output if status else list(walked(doc, agents))}")
     words.update(line.split()[1] for line in expected.splitlines())
     if doc["packets"] and doc["configuration"]["ports"]:
         spoilt = copy.deepcopy(doc)
@@ -129,7 +245,7 @@ def main():
     program, overlay, count, seed = sys.argv[1], sys.argv[2], int((sys.argv[3:] or ["50"])[0]), int((sys.argv[4:] or ["1"])[0])
     chance, words, done, refused, wrong = random.Random(seed), collections.Counter(), 0, 0, 0
     while done < count:
-        doc = peopled(chance)
+        doc = spread(chance, peopled(chance))
         status, found = differences(program, overlay, doc, chance, words)
         done, refused = done + (status == 0), refused + (status != 0)
         for line in found[:5]:

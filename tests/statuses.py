@@ -148,11 +148,13 @@ BAD = [
      b"networks, ports, policies, services and chains"),
     (json.dumps({**json.loads(document()), "nets": []}).encode(), b"nets Unknown",
      b"nets is a member that the form does not have there: compile and constrain take topology and configuration, "
-     b"reach packets too, scale groups and packets, run events, flows capacity and steps, and graceful takes events alone\n"
+     b"reach packets too, scale groups and packets, run events, flows capacity and steps, and graceful takes events alone; "
+     b"of inspect, ways, diff and unused take what compile takes, why and expect what reach takes, and hitless edits too\n"
      b"overlay: compile takes topology and configuration"),
     (json.dumps({**json.loads(document()), "a.topology.as Range": []}).encode(), b"a.topology.as Range Unknown",
      b"a.topology.as Range is a member that the form does not have there: compile and constrain take topology and configuration, "
-     b"reach packets too, scale groups and packets, run events, flows capacity and steps, and graceful takes events alone\n"
+     b"reach packets too, scale groups and packets, run events, flows capacity and steps, and graceful takes events alone; "
+     b"of inspect, ways, diff and unused take what compile takes, why and expect what reach takes, and hitless edits too\n"
      b"overlay: compile takes topology and configuration"),
     (document(**{"n" * 600: []}), b"configuration.%s Unknown" % (b"n" * 600),
      b"configuration.%s.. breaks the form; standard output has the whole path, and how" % (b"n" * 485)),

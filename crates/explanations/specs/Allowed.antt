@@ -14,21 +14,24 @@ first_member path = member_name (before_first (λ c. c == 46) path)
 -- of what the lists of the commands have, and of the edits in them: events, steps and edits have one member
 unfoldable pub listed_members : List ℕ → List ℕ
 listed_members parent =
-    if is parent (codes "packets") || is parent (codes "trace") then codes "port, to, protocol, sport and dport"
+    if is parent (codes "packets")
+    then codes "port, to, protocol, sport and dport, and for inspect expect also expect"
+    else (if is parent (codes "trace") then codes "port, to, protocol, sport and dport"
+    else (if is parent (codes "expect") then codes "port and services"
     else (if is parent (codes "groups") then codes "service and members"
     else (if is parent (codes "events")
     then codes "one of edit, deliver, deliver-bytes, lose, connect, restart, show, trace and break in run, and of opened and update in graceful"
     else (if is parent (codes "steps") then codes "one of edit and trace"
-    else (if is parent (codes "edit") then codes "one of put and delete"
+    else (if is parent (codes "edit") || is parent (codes "edits") then codes "one of put and delete"
     else (if is parent (codes "put") || is parent (codes "delete")
     then codes "one of network, port, policy, service, chain and node"
-    else no_phrase)))))
+    else no_phrase)))))))
 
 -- of the object that stands in a list of this name, or under it; the document stands under none
 unfoldable pub members_of : List ℕ → List ℕ
 members_of parent =
     if is parent (codes "")
-    then codes "compile and constrain take topology and configuration, reach packets too, scale groups and packets, run events, flows capacity and steps, and graceful takes events alone"
+    then codes "compile and constrain take topology and configuration, reach packets too, scale groups and packets, run events, flows capacity and steps, and graceful takes events alone; of inspect, ways, diff and unused take what compile takes, why and expect what reach takes, and hitless edits too"
     else (if is parent (codes "topology") then codes "as, controllers and nodes"
     else (if is parent (codes "controllers") then codes "name and address"
     else (if is parent (codes "nodes") || is parent (codes "node") then codes "name, address and controllers"
@@ -47,7 +50,7 @@ unfoldable pub begins_in_form : List ℕ → Bool
 begins_in_form path =
     let word = first_member path in
     is word (codes "") || (is word (codes "topology") || (is word (codes "configuration") || (is word (codes "packets")
-    || (is word (codes "groups") || (is word (codes "events") || is word (codes "steps"))))))
+    || (is word (codes "groups") || (is word (codes "events") || (is word (codes "steps") || is word (codes "edits")))))))
 
 -- of the object that a path leads into
 unfoldable pub allowed_at : List ℕ → List ℕ

@@ -52,12 +52,15 @@ port_id = codes "a whole number from 0 to 524271"
 abbrev sixteen_bits : List ℕ
 sixteen_bits = codes "a whole number from 0 to 65535"
 
+abbrev edit : List ℕ
+edit = codes "an object with one member, put or delete"
+
 -- the members of each object, in the order of docs/FORMATS.md; the document is that of the empty path
 unfoldable pub document_member : List ℕ → List ℕ
 document_member member =
     if is member (codes "") || is member (codes "topology") || is member (codes "configuration") then object
     else (if is member (codes "packets") || is member (codes "groups") || is member (codes "events")
-    || is member (codes "steps") then list
+    || is member (codes "steps") || is member (codes "edits") then list
     else (if is member (codes "capacity") then codes "a whole number from 1 to 65535"
     else no_phrase))
 
@@ -141,7 +144,17 @@ packet_member member =
     else (if is member (codes "to") then address
     else (if is member (codes "protocol") then codes "a whole number from 0 to 255"
     else (if is member (codes "sport") || is member (codes "dport") then sixteen_bits
-    else no_phrase)))
+    else (if is member (codes "expect")
+    then codes "dropped, dropped and a reason such as denied, or an object with port and services"
+    else no_phrase))))
+
+-- of what is expected of a packet that is delivered
+unfoldable pub expect_member : List ℕ → List ℕ
+expect_member member =
+    if is member (codes "port") then port_id
+    else (if is member (codes "services")
+    then codes "a list of numbers of services, in the order in which the packet passes them"
+    else no_phrase)
 
 unfoldable pub group_member : List ℕ → List ℕ
 group_member member =
@@ -153,7 +166,7 @@ group_member member =
 -- of a schedule's event, of a log's entry and of a step: each has one of these members
 unfoldable pub event_member : List ℕ → List ℕ
 event_member member =
-    if is member (codes "edit") then codes "an object with one member, put or delete"
+    if is member (codes "edit") then edit
     else (if is member (codes "deliver") || is member (codes "deliver-bytes") || is member (codes "break")
     then codes "a list of two names and a number"
     else (if is member (codes "lose") || is member (codes "connect") then codes "a list of two names"
@@ -176,16 +189,17 @@ kind_member phrase member =
     || is member (codes "service") || is member (codes "chain") || is member (codes "node") then phrase
     else no_phrase
 
--- of what the lists of the commands have: packets, groups, events and steps, and the edits in them
+-- of what the lists of the commands have: packets, groups, events, steps and edits, and the edits in events
 unfoldable pub listed_member : List ℕ → List ℕ → List ℕ
 listed_member parent member =
     if is parent (codes "packets") || is parent (codes "trace") then packet_member member
+    else (if is parent (codes "expect") then expect_member member
     else (if is parent (codes "groups") then group_member member
     else (if is parent (codes "events") || is parent (codes "steps") then event_member member
-    else (if is parent (codes "edit") then edit_member member
+    else (if is parent (codes "edit") || is parent (codes "edits") then edit_member member
     else (if is parent (codes "put") then kind_member object member
     else (if is parent (codes "delete") then kind_member name member
-    else no_phrase)))))
+    else no_phrase))))))
 
 -- what is wanted of a member behind another: an object is in a list, or stands alone in an edit
 unfoldable pub member_wanted : List ℕ → List ℕ → List ℕ
@@ -203,7 +217,7 @@ member_wanted parent member =
     else (if is parent (codes "chains") || is parent (codes "chain") then chain_member member
     else listed_member parent member))))))))))
 
--- of two lists the objects that they are of say what their items are
+-- of three lists the objects that they are of say what their items are
 unfoldable pub controllers_item : List ℕ → List ℕ
 controllers_item parent =
     if is parent (codes "topology") then object
@@ -214,6 +228,12 @@ unfoldable pub policies_item : List ℕ → List ℕ
 policies_item parent =
     if is parent (codes "configuration") then object
     else (if is parent (codes "networks") || is parent (codes "network") then name
+    else no_phrase)
+
+unfoldable pub services_item : List ℕ → List ℕ
+services_item parent =
+    if is parent (codes "configuration") then object
+    else (if is parent (codes "expect") then sixteen_bits
     else no_phrase)
 
 -- a word leads to the third item of its list
@@ -229,9 +249,11 @@ unfoldable pub item_wanted : List ℕ → List ℕ → List ℕ → List ℕ
 item_wanted parent member word =
     if is member (codes "controllers") then controllers_item parent
     else (if is member (codes "policies") then policies_item parent
+    else (if is member (codes "services") then services_item parent
     else (if is member (codes "nodes") || is member (codes "networks") || is member (codes "ports")
-    || is member (codes "services") || is member (codes "chains") || is member (codes "rules")
+    || is member (codes "chains") || is member (codes "rules")
     || is member (codes "packets") || is member (codes "groups") then object
+    else (if is member (codes "edits") then edit
     else (if is member (codes "subnets") then codes "a prefix such as 10.1.0.0/24, with no bit set past its length"
     else (if is member (codes "source_ports") || is member (codes "destination_ports")
     || is member (codes "members") then sixteen_bits
@@ -241,7 +263,7 @@ item_wanted parent member word =
     else (if is member (codes "steps") then codes "an object with one member, edit or trace"
     else (if is member (codes "events")
     then codes "of run round, settle or an object with one member: edit, deliver, deliver-bytes, lose, connect, restart, show, trace or break; of graceful closed, expired, show or an object with one member: opened or update"
-    else no_phrase))))))))
+    else no_phrase))))))))))
 
 -- what is wanted at a path, by its last member and the one before
 unfoldable pub wanted_at : List ℕ → List ℕ

@@ -24,7 +24,7 @@ fn begins_in_form(path: &str) -> bool
 {
     matches!(
         first_member(path),
-        "" | "topology" | "configuration" | "packets" | "groups" | "events" | "steps"
+        "" | "topology" | "configuration" | "packets" | "groups" | "events" | "steps" | "edits"
     )
 }
 
@@ -45,7 +45,7 @@ fn members_of(parent: &str) -> &'static str
 {
     match parent {
         "" =>
-            "compile and constrain take topology and configuration, reach packets too, scale groups and packets, run events, flows capacity and steps, and graceful takes events alone",
+            "compile and constrain take topology and configuration, reach packets too, scale groups and packets, run events, flows capacity and steps, and graceful takes events alone; of inspect, ways, diff and unused take what compile takes, why and expect what reach takes, and hitless edits too",
         "topology" => "as, controllers and nodes",
         "controllers" => "name and address",
         "nodes" | "node" => "name, address and controllers",
@@ -67,12 +67,14 @@ fn listed_members(parent: &str) -> &'static str
     ensures { result.now ≡ listed_members parent.now }
 {
     match parent {
-        "packets" | "trace" => "port, to, protocol, sport and dport",
+        "packets" => "port, to, protocol, sport and dport, and for inspect expect also expect",
+        "trace" => "port, to, protocol, sport and dport",
+        "expect" => "port and services",
         "groups" => "service and members",
         "events" =>
             "one of edit, deliver, deliver-bytes, lose, connect, restart, show, trace and break in run, and of opened and update in graceful",
         "steps" => "one of edit and trace",
-        "edit" => "one of put and delete",
+        "edit" | "edits" => "one of put and delete",
         "put" | "delete" => "one of network, port, policy, service, chain and node",
         _ => NO_PHRASE,
     }

@@ -2,9 +2,9 @@
 ghost use Rattle.std.specs.Prelude.{◌≡◌};
 ghost use Rattle.explanations.specs.Wanted.{before_point, behind_point, is_item, member_name};
 ghost use Rattle.explanations.specs.Wanted.{item_wanted, member_wanted, wanted_at};
-ghost use Rattle.explanations.specs.Wanted.{controllers_item, is_third, item_of_three, policies_item};
+ghost use Rattle.explanations.specs.Wanted.{controllers_item, is_third, item_of_three, policies_item, services_item};
 ghost use Rattle.explanations.specs.Wanted.{chain_member, configuration_member, controller_member, document_member};
-ghost use Rattle.explanations.specs.Wanted.{edit_member, event_member, group_member, kind_member, listed_member};
+ghost use Rattle.explanations.specs.Wanted.{edit_member, event_member, expect_member, group_member, kind_member, listed_member};
 ghost use Rattle.explanations.specs.Wanted.{network_member, node_member, packet_member, policy_member, port_member};
 ghost use Rattle.explanations.specs.Wanted.{rule_member, service_member, topology_member};
 
@@ -27,6 +27,8 @@ const ADDRESS: &str = "an address such as 10.1.0.5";
 const PORT_ID: &str = "a whole number from 0 to 524271";
 
 const SIXTEEN_BITS: &str = "a whole number from 0 to 65535";
+
+const EDIT: &str = "an object with one member, put or delete";
 
 /// What is wanted at a path.
 #[tactic(auto, unfolding(crate::specs::Wanted::wanted_at))]
@@ -98,9 +100,10 @@ fn listed_member(parent: &str, member: &str) -> &'static str
 {
     match parent {
         "packets" | "trace" => packet_member(member),
+        "expect" => expect_member(member),
         "groups" => group_member(member),
         "events" | "steps" => event_member(member),
-        "edit" => edit_member(member),
+        "edit" | "edits" => edit_member(member),
         "put" => kind_member(OBJECT, member),
         "delete" => kind_member(NAME, member),
         _ => NO_PHRASE,
@@ -114,7 +117,7 @@ fn document_member(member: &str) -> &'static str
 {
     match member {
         "" | "topology" | "configuration" => OBJECT,
-        "packets" | "groups" | "events" | "steps" => LIST,
+        "packets" | "groups" | "events" | "steps" | "edits" => LIST,
         "capacity" => "a whole number from 1 to 65535",
         _ => NO_PHRASE,
     }
@@ -262,6 +265,20 @@ fn packet_member(member: &str) -> &'static str
         "to" => ADDRESS,
         "protocol" => "a whole number from 0 to 255",
         "sport" | "dport" => SIXTEEN_BITS,
+        "expect" =>
+            "dropped, dropped and a reason such as denied, or an object with port and services",
+        _ => NO_PHRASE,
+    }
+}
+
+/// Of what is expected of a packet that is delivered.
+#[tactic(auto, unfolding(crate::specs::Wanted::expect_member))]
+fn expect_member(member: &str) -> &'static str
+    ensures { result.now ≡ expect_member member.now }
+{
+    match member {
+        "port" => PORT_ID,
+        "services" => "a list of numbers of services, in the order in which the packet passes them",
         _ => NO_PHRASE,
     }
 }
@@ -284,7 +301,7 @@ fn event_member(member: &str) -> &'static str
     ensures { result.now ≡ event_member member.now }
 {
     match member {
-        "edit" => "an object with one member, put or delete",
+        "edit" => EDIT,
         "deliver" | "deliver-bytes" | "break" => "a list of two names and a number",
         "lose" | "connect" => "a list of two names",
         "restart" | "show" => NAME,
@@ -329,8 +346,9 @@ fn item_wanted(parent: &str, member: &str, word: &str) -> &'static str
     match member {
         "controllers" => controllers_item(parent),
         "policies" => policies_item(parent),
-        "nodes" | "networks" | "ports" | "services" | "chains" | "rules" | "packets" | "groups" =>
-            OBJECT,
+        "services" => services_item(parent),
+        "nodes" | "networks" | "ports" | "chains" | "rules" | "packets" | "groups" => OBJECT,
+        "edits" => EDIT,
         "subnets" => "a prefix such as 10.1.0.0/24, with no bit set past its length",
         "source_ports" | "destination_ports" | "members" => SIXTEEN_BITS,
         "hops" | "lose" | "connect" => NAME,
@@ -380,6 +398,18 @@ fn policies_item(parent: &str) -> &'static str
     match parent {
         "configuration" => OBJECT,
         "networks" | "network" => NAME,
+        _ => NO_PHRASE,
+    }
+}
+
+/// Of the services of a configuration, and of those that a packet is expected to pass.
+#[tactic(auto, unfolding(crate::specs::Wanted::services_item))]
+fn services_item(parent: &str) -> &'static str
+    ensures { result.now ≡ services_item parent.now }
+{
+    match parent {
+        "configuration" => OBJECT,
+        "expect" => SIXTEEN_BITS,
         _ => NO_PHRASE,
     }
 }

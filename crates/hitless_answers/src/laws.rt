@@ -11,7 +11,6 @@ ghost use Rattle.hitless_answers.specs.Lines.{packet_line, refused_line, tied_fa
 
 /// The JSON of a packet that an edit interrupts, of a refusal, and of how many pairs of ports an edit interrupts, reads as its
 /// value.
-#[tactic(auto, using(crate::proofs::EditsBack::packet_reads, crate::proofs::EditsBack::refused_reads, crate::proofs::EditsBack::count_reads))]
 pub fn lines_of_edits_read_as_their_values()
     ensures packet { (c : Config) (n : ℕ) (l : Interruption) → IsTrue (has_config_form c) → n < 2 ^ 64 → IsTrue (has_packet_size l)
         → IsReadBack (packet_value c n l) }

@@ -33,7 +33,7 @@ const USAGE: &str = "usage: inspect COMMAND, where a FILE of - is standard input
   diff OLD NEW         what goes another way after a change: objects, and which packets by which rule and services
   expect FILE          which packets have another outcome than the document expects
   unused FILE          which rules decide no packet, and which policies and chains are not in use
-  why FILE             what becomes of packets, by which rule, and what fails of the rules before that
+  why FILE             what becomes of packets, by which rule and over which rows, and what fails of the rules before that
   hitless FILE         which of a document's edits interrupt packets that are delivered before and after, and which packets
   --help               this text; so does -h
   --version            the version

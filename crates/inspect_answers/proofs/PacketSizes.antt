@@ -36,7 +36,8 @@ use Rattle.reach_plain.proofs.Becoming.{outcome_iff}
 use Rattle.inspect_reasons.specs.Causes.{asked, attached, between, causes, decided, failing, fails_forwards, fails_mirrored, holder, leading, leading_by, leaving, nowhere, policy_of, skipped, starting, towards}
 use Rattle.inspect_reasons.specs.declared.cause.Cause.{Cause}
 use Rattle.inspect_reasons.specs.declared.cause.Cause.TheVariants as Of
-use Rattle.inspect_json.specs.Sizes.{has_cause_size, has_outcome_size, has_policy_size, has_rule_size, has_service_size}
+use Rattle.inspect_walks.specs.Sizes.{has_name_size}
+use Rattle.inspect_json.specs.Sizes.{has_cause_size, has_outcome_size, has_rule_size, has_service_size}
 use Rattle.inspect_answers.proofs.OfEach.{Each, OfSome, each_append, each_cond, each_flat, each_map, each_of, each_passes, passes_each, passes_of}
 use Rattle.inspect_answers.proofs.LineSizes.{HasNetworkParts, network_form, policy_named}
 use Rattle.inspect_answers.proofs.RuleSizes.{IsSizedRule, forms_of, policy_form, rule_between, services_sized}
@@ -103,10 +104,10 @@ module _ (t : Topology) (c : Config) (form : has_config_form c ≡ true) (valid 
   abbrev IsSizedCause : Cause → Type 0
   IsSizedCause x = has_cause_size x ≡ true
 
-  policy_sized : (number : RuleNo) → has_policy_size (policy_of c number) ≡ true
+  policy_sized : (number : RuleNo) → has_name_size (policy_of c number) ≡ true
   policy_sized number =
       elim (find (λ (p : Policy). p.sequence == number.sequence) c.policies) as (λ o. find (λ (p : Policy). p.sequence == number.sequence) c.policies ≡ o
-      → has_policy_size (option_map (λ (p : Policy). p.name) o) ≡ true) [
+      → has_name_size (option_map (λ (p : Policy). p.name) o) ≡ true) [
         | None ↦ λ e. refl
         | Some q ↦ λ e.
             policy_named q (policy_form t c form valid q (found_is (λ (p : Policy). p.sequence == number.sequence) c.policies q e).1)
@@ -114,8 +115,8 @@ module _ (t : Topology) (c : Config) (form : has_config_form c ≡ true) (valid 
 
   skipped_sized : (a b : Network) (u : Tuple) (r : NumberedRule) → IsSizedRule r → OfSome IsSizedCause (skipped c a b u r)
   skipped_sized a b u r h =
-      let sized : (has_rule_size r.number && has_policy_size (policy_of c r.number)) ≡ true =
-      and_from (has_rule_size r.number) (has_policy_size (policy_of c r.number)) h.number (policy_sized r.number) in
+      let sized : (has_rule_size r.number && has_name_size (policy_of c r.number)) ≡ true =
+      and_from (has_rule_size r.number) (has_name_size (policy_of c r.number)) h.number (policy_sized r.number) in
       elim (failing r.rule.direction (fails_forwards a b u r.rule) (fails_mirrored a b u r.rule)) as (λ o.
       OfSome IsSizedCause (option_map (λ f. Of.Skipped r.number (policy_of c r.number) f.0 f.1) o)) [
         | None ↦ tt
@@ -126,7 +127,7 @@ module _ (t : Topology) (c : Config) (form : has_config_form c ≡ true) (valid 
   decided_sized a b u None e = tt
   decided_sized a b u (Some m) e =
       let number = decided_number a b u m ((deciding_iff c a b u m).0 e) in
-      (and_from (has_rule_size m.rule.number) (has_policy_size (policy_of c m.rule.number)) number (policy_sized m.rule.number), tt)
+      (and_from (has_rule_size m.rule.number) (has_name_size (policy_of c m.rule.number)) number (policy_sized m.rule.number), tt)
 
   asked_sized : (a b : Network) (u : Tuple) → Each IsSizedCause (asked c a b u)
   asked_sized a b u =

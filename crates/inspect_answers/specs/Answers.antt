@@ -20,7 +20,7 @@ use Rattle.compile_answers.specs.declared.unfit.Unfit.TheVariants as unfit
 use Rattle.hitless_answers.specs.Answers.{hitless_answer}
 use Rattle.inspect_answers.specs.Expectations.{ExpectInput, Expectation, expect_at}
 use Rattle.inspect_answers.specs.Expecting.{all_met, expect_in}
-use Rattle.inspect_answers.specs.Explained.{why_in}
+use Rattle.inspect_answers.specs.Explained.{checked_of, why_in}
 use Rattle.inspect_answers.specs.IdleLines.{idle_in}
 use Rattle.inspect_json.specs.WayLines.{ways_in}
 use Rattle.inspect_json.specs.declared.form.Form.{Form}
@@ -139,11 +139,11 @@ unused_value form d = unused_reading form (compile_at [] d)
 unfoldable pub unused_answer : Form → List ℕ → Answer
 unused_answer form octets = of_json (unused_value form) (json_of octets)
 
--- what becomes of packets, and what that comes of, of what was read for `why`, or not
+-- what becomes of packets, what that comes of, and their walks, of what was read for `why`, or not
 abbrev pub why_reading : Form → Result ReachInput Fault → Answer
 why_reading form (Err f) = judged (answer_bad f)
 why_reading form (Ok r) =
-    answer_unless (first_broken r.input.topology r.input.config) (judged (answer_good (why_in form r.input.config r.packets)))
+    answer_unless (first_broken r.input.topology r.input.config) (judged (answer_good (why_in form (checked_of r) r.packets)))
 
 -- of a value
 unfoldable pub why_value : Form → Data → Answer

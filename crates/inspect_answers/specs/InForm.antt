@@ -5,7 +5,7 @@ use Rattle.ov_json.specs.Json.{json_of}
 use Rattle.config_types.specs.Form.{has_config_form}
 use Rattle.config_types.specs.declared.config.Config.{Config}
 use Rattle.config_model.specs.Faults.{Fault}
-use Rattle.config_model.specs.Input.{compile_at, reach_at}
+use Rattle.config_model.specs.Input.{compile_at}
 use Rattle.inspect_answers.specs.Expectations.{expect_at}
 
 -- whatever a value is read as has a configuration of the written form
@@ -16,12 +16,9 @@ ReadsInForm {Input} read config d = (input : Input) → read d ≡ Ok input → 
 unfoldable pub AreInForm : {Input : Type 0} → (Data → Result Input Fault) → (Input → Config) → List ℕ → Type 0
 AreInForm read config octets = (d : Data) → json_of octets ≡ Some d → ReadsInForm read config d
 
--- of what `ways` and `unused` take, of what `expect` takes, and of what `why` takes
+-- of what `ways` and `unused` take, and of what `expect` takes
 abbrev pub AreWrittenInForm : List ℕ → Type 0
 AreWrittenInForm octets = AreInForm (compile_at []) (λ p. p.config) octets
 
 abbrev pub AreExpectedInForm : List ℕ → Type 0
 AreExpectedInForm octets = AreInForm (expect_at []) (λ r. r.input.config) octets
-
-abbrev pub AreAskedInForm : List ℕ → Type 0
-AreAskedInForm octets = AreInForm (reach_at []) (λ r. r.input.config) octets

@@ -1,16 +1,21 @@
 //! The answer of `why`.
-ghost use Rattle.std.specs.Prelude.{◌≡◌, ◌++◌, [], IfOk, IfErr, OnOk, OnErr};
+ghost use Rattle.std.specs.Prelude.{◌≡◌, ◌++◌, [], IfOk, IfErr, OnOk, OnErr, IsTrue};
 ghost use Rattle.std.specs.Io.KnownBytes.{Appends};
+ghost use Rattle.std.specs.List.{list_all};
 ghost use Rattle.serde_json.specs.View.{view};
 ghost use Rattle.ov_io.specs.Inputs.{TookFront};
 ghost use Rattle.ov_io.specs.Pieces.{HasWriteCause, IsOnItsWay};
 ghost use Rattle.compile_answers.specs.Answers.{answer_good};
 ghost use Rattle.inspect_json.specs.declared.form.Form.{Form as LineForm};
 ghost use Rattle.inspect_reasons.specs.CauseLines.{cause_line};
-ghost use Rattle.config_model.specs.Input.{reach_at};
-ghost use Rattle.inspect_answers.specs.InForm.{AreAskedInForm, ReadsInForm};
+ghost use Rattle.inspect_walks.specs.Lines.{step_line};
+ghost use Rattle.inspect_walks.specs.TransformModel.Compiled.{compiled_tables};
+ghost use Rattle.inspect_walks.specs.Walks.{compiled_agents};
 ghost use Rattle.inspect_answers.specs.Answers.{IsAnswer, IsUnfit, WasGiven, judged, why_answer, why_value};
-ghost use Rattle.inspect_answers.specs.Explained.{explained_in, explained_text, packet_in, packets_from, why_in};
+ghost use Rattle.inspect_answers.specs.Explained.{IsAskedAs, IsAskedOf, TookExplained, explained_in, explained_text};
+ghost use Rattle.inspect_answers.specs.Explained.{has_walk_size, packet_in, packets_from, why_in};
+ghost use Rattle.inspect_answers.specs.Runs.{status_of};
+ghost use Rattle.inspect_answers.specs.declared.top.Status.TheVariants as Ended;
 
 use crate::verdict::{Verdict, answer_unfit};
 use crate::writing::write_each;
@@ -20,6 +25,7 @@ use config_model::{ReachInput, ReadRefusal, read_reach};
 use inspect_changes::LinesOf;
 use inspect_json::{ExplainedJson, Form};
 use inspect_reasons::{Cause, CauseText, causes_of};
+use inspect_walks::{Compiled, StepText, TableAgent, ToldStep, agents_of, compiled, walk_of};
 use ov_io::{Sink, TextOut, WriteRefusal, write_gathered};
 use ov_json::value_of;
 use ov_types::{Items, NoMemory, Outcome, Packet};
@@ -45,26 +51,45 @@ impl LinesOf<Cause> for CauseLines {
     }
 }
 
-/// Hands on the lines of text of an outcome and of what it comes of, behind the number of the packet.
+/// The line of a step of a walk, behind the number of the packet.
+#[derive(Clone, Copy)]
+struct StepLines {
+    number: usize,
+}
+
+impl LinesOf<ToldStep> for StepLines {
+    ghost lines = { λ w step. step_line w.number step };
+
+    #[tactic(auto, unfolding(inspect_walks::specs::Lines::step_line))]
+    fn append(&self, _alloc: Global, step: &ToldStep, out: &mut TextOut) -> Result<(), NoMemory> {
+        let number = self.number;
+        let step = StepText(*step);
+        write!(out, "{number} {step}\n")
+    }
+}
+
+/// Hands on the lines of text of an outcome, of what it comes of and of the walk, behind the number of the packet.
 fn write_explained<K: Sink>(
     alloc: Global,
     number: usize,
     outcome: &Outcome,
     causes: &[Cause],
+    walk: &[ToldStep],
     sink: &mut K,
     gathered: &mut TextOut,
 ) -> Result<(), WriteRefusal>
     ensures ok { OnOk result (IsOnItsWay (K.taken sink.old) (K.taken sink.new) gathered.new []
-        (gathered.old ++ explained_text number outcome.now causes.now)) }
+        (gathered.old ++ explained_text number outcome.now causes.now walk.now)) }
     ensures front { OnErr result (TookFront (K.taken sink.old) (K.taken sink.new)
-        (gathered.old ++ explained_text number outcome.now causes.now)) }
+        (gathered.old ++ explained_text number outcome.now causes.now walk.now)) }
     ensures cause { HasWriteCause (K.faults sink.old) (K.faults sink.new) result }
 {
     write_one(alloc, &OutcomeLines { number }, outcome, sink, gathered)?;
-    write_each(alloc, &CauseLines { number }, causes, sink, gathered)
+    write_each(alloc, &CauseLines { number }, causes, sink, gathered)?;
+    write_each(alloc, &StepLines { number }, walk, sink, gathered)
 }
 
-/// Hands on an outcome and what it comes of, in a form.
+/// Hands on an outcome, what it comes of and the walk, in a form.
 fn write_in<K: Sink>(
     alloc: Global,
     form: Form,
@@ -73,14 +98,22 @@ fn write_in<K: Sink>(
     sink: &mut K,
     gathered: &mut TextOut,
 ) -> Result<(), WriteRefusal>
-    ensures ok { OnOk result (IsOnItsWay (K.taken sink.old) (K.taken sink.new) gathered.new []
-        (gathered.old ++ explained_in form told.now.config.now told.now.number outcome.now told.now.causes.now)) }
-    ensures front { OnErr result (TookFront (K.taken sink.old) (K.taken sink.new)
-        (gathered.old ++ explained_in form told.now.config.now told.now.number outcome.now told.now.causes.now)) }
+    ensures ok { OnOk result (IsOnItsWay (K.taken sink.old) (K.taken sink.new) gathered.new [] (gathered.old
+        ++ explained_in form told.now.config.now told.now.number outcome.now told.now.causes.now told.now.walk.now)) }
+    ensures front { OnErr result (TookFront (K.taken sink.old) (K.taken sink.new) (gathered.old
+        ++ explained_in form told.now.config.now told.now.number outcome.now told.now.causes.now told.now.walk.now)) }
     ensures cause { HasWriteCause (K.faults sink.old) (K.faults sink.new) result }
 {
     match form {
-        Form::Text => write_explained(alloc, told.number, outcome, told.causes, sink, gathered),
+        Form::Text => write_explained(
+            alloc,
+            told.number,
+            outcome,
+            told.causes,
+            told.walk,
+            sink,
+            gathered,
+        ),
         Form::Json => write_one(alloc, told, outcome, sink, gathered),
     }
 }
@@ -92,22 +125,28 @@ fn write_packet<K: Sink>(
     form: Form,
     number: usize,
     valid: &Valid,
+    agents: &mut [TableAgent<'_>],
     packet: &Packet,
     sink: &mut K,
     gathered: &mut TextOut,
 ) -> Result<(), WriteRefusal>
+    requires { agents.old ≡ compiled_agents valid.now }
     ensures ok { OnOk result (IsOnItsWay (K.taken sink.old) (K.taken sink.new) gathered.new []
-        (gathered.old ++ packet_in form valid.now.config number packet.now)) }
+        (gathered.old ++ packet_in form valid.now number packet.now)) }
     ensures front { OnErr result (TookFront (K.taken sink.old) (K.taken sink.new)
-        (gathered.old ++ packet_in form valid.now.config number packet.now)) }
+        (gathered.old ++ packet_in form valid.now number packet.now)) }
     ensures cause { HasWriteCause (K.faults sink.old) (K.faults sink.new) result }
+    ensures kept { agents.new ≡ agents.old }
+    ensures sized { OnOk result (IsTrue (has_walk_size valid.now packet.now)) }
 {
+    let walk = walk_of(alloc, valid, agents, *packet)?;
     let causes = causes_of(alloc, valid, *packet)?;
     let outcome = reach(valid, *packet);
     let told = ExplainedJson {
         config: valid.config(),
         number,
         causes: causes.as_slice(),
+        walk: walk.as_slice(),
     };
     write_in(alloc, form, &told, &outcome, sink, gathered)
 }
@@ -117,24 +156,77 @@ fn write_packets<K: Sink>(
     alloc: Global,
     form: Form,
     valid: &Valid,
+    agents: &mut [TableAgent<'_>],
     packets: &[Packet],
     sink: &mut K,
     gathered: &mut TextOut,
 ) -> Result<(), WriteRefusal>
+    requires { agents.old ≡ compiled_agents valid.now }
     ensures ok { OnOk result (IsOnItsWay (K.taken sink.old) (K.taken sink.new) gathered.new []
-        (gathered.old ++ packets_from form valid.now.config 1 packets.now)) }
+        (gathered.old ++ packets_from form valid.now 1 packets.now)) }
     ensures front { OnErr result (TookFront (K.taken sink.old) (K.taken sink.new)
-        (gathered.old ++ packets_from form valid.now.config 1 packets.now)) }
+        (gathered.old ++ packets_from form valid.now 1 packets.now)) }
     ensures cause { HasWriteCause (K.faults sink.old) (K.faults sink.new) result }
+    ensures sized { OnOk result (IsTrue (list_all (has_walk_size valid.now) packets.now)) }
 {
     for (index, packet) in packets.iter().enumerate() {
-        write_packet(alloc, form, index + 1, valid, packet, sink, gathered)?;
+        write_packet(
+            alloc,
+            form,
+            index + 1,
+            valid,
+            agents,
+            packet,
+            sink,
+            gathered,
+        )?;
     }
     Ok(())
 }
 
-/// Writes the outcome of each packet and what it comes of.
+/// Writes the outcome of each packet, what it comes of and its walk over these agents.
 #[tactic(auto, unfolding(crate::specs::Explained::why_in))]
+fn write_over<K: Sink>(
+    alloc: Global,
+    form: Form,
+    valid: &Valid,
+    agents: &mut [TableAgent<'_>],
+    packets: &[Packet],
+    sink: &mut K,
+) -> Result<(), WriteRefusal>
+    requires { agents.old ≡ compiled_agents valid.now }
+    ensures ok { OnOk result (Appends (K.taken sink.old) (K.taken sink.new) (why_in form valid.now packets.now)) }
+    ensures front { OnErr result (TookFront (K.taken sink.old) (K.taken sink.new) (why_in form valid.now packets.now)) }
+    ensures cause { HasWriteCause (K.faults sink.old) (K.faults sink.new) result }
+    ensures sized { OnOk result (IsTrue (list_all (has_walk_size valid.now) packets.now)) }
+{
+    let mut gathered = TextOut::new(alloc);
+    write_packets(alloc, form, valid, agents, packets, sink, &mut gathered)?;
+    write_gathered(sink, &mut gathered)
+}
+
+/// Writes the same over the tables that the configuration was compiled to.
+#[tactic(auto, using(ov_io::proofs::PieceLemmas::took_nothing))]
+fn write_over_tables<K: Sink>(
+    alloc: Global,
+    form: Form,
+    valid: &Valid,
+    tables: &Compiled,
+    packets: &[Packet],
+    sink: &mut K,
+) -> Result<(), WriteRefusal>
+    requires { tables.now ≡ compiled_tables valid.now }
+    ensures ok { OnOk result (Appends (K.taken sink.old) (K.taken sink.new) (why_in form valid.now packets.now)) }
+    ensures front { OnErr result (TookFront (K.taken sink.old) (K.taken sink.new) (why_in form valid.now packets.now)) }
+    ensures cause { HasWriteCause (K.faults sink.old) (K.faults sink.new) result }
+    ensures sized { OnOk result (IsTrue (list_all (has_walk_size valid.now) packets.now)) }
+{
+    let mut agents = agents_of(alloc, valid, tables)?;
+    write_over(alloc, form, valid, agents.as_mut_slice(), packets, sink)
+}
+
+/// Compiles the tables once, and writes the outcome of each packet, what it comes of and its walk.
+#[tactic(auto, using(ov_io::proofs::PieceLemmas::took_nothing))]
 fn write_why<K: Sink>(
     alloc: Global,
     form: Form,
@@ -142,13 +234,13 @@ fn write_why<K: Sink>(
     packets: &[Packet],
     sink: &mut K,
 ) -> Result<(), WriteRefusal>
-    ensures ok { OnOk result (Appends (K.taken sink.old) (K.taken sink.new) (why_in form valid.now.config packets.now)) }
-    ensures front { OnErr result (TookFront (K.taken sink.old) (K.taken sink.new) (why_in form valid.now.config packets.now)) }
+    ensures ok { OnOk result (Appends (K.taken sink.old) (K.taken sink.new) (why_in form valid.now packets.now)) }
+    ensures front { OnErr result (TookFront (K.taken sink.old) (K.taken sink.new) (why_in form valid.now packets.now)) }
     ensures cause { HasWriteCause (K.faults sink.old) (K.faults sink.new) result }
+    ensures sized { OnOk result (IsTrue (list_all (has_walk_size valid.now) packets.now)) }
 {
-    let mut gathered = TextOut::new(alloc);
-    write_packets(alloc, form, valid, packets, sink, &mut gathered)?;
-    write_gathered(sink, &mut gathered)
+    let tables = compiled(alloc, valid)?;
+    write_over_tables(alloc, form, valid, &tables, packets, sink)
 }
 
 /// Packets, and the valid configuration that decides them.
@@ -162,9 +254,9 @@ struct Question {
 #[tactic(auto, using(crate::proofs::Unfitting::unfit_anyway), unfolding(crate::specs::Answers::why_value))]
 fn why_taken(alloc: Global, value: &Value) -> Result<Question, Unfit>
     ensures fit { (form : LineForm) → IfOk result (λ asked. why_value form (view value.now)
-        ≡ judged (answer_good (why_in form asked.valid.config asked.packets))) }
+        ≡ judged (answer_good (why_in form asked.valid asked.packets))) }
     ensures unfit { (form : LineForm) → IfErr result (λ unfit. IsUnfit unfit (why_value form (view value.now))) }
-    ensures in_form { OnOk result (ReadsInForm (reach_at []) (λ r. r.input.config) (view value.now)) }
+    ensures read { IfOk result (λ asked. IsAskedAs (view value.now) asked.valid asked.packets) }
 {
     match read_reach(alloc, value) {
         Ok(ReachInput { input, packets }) => match valid_of(alloc, input) {
@@ -177,12 +269,12 @@ fn why_taken(alloc: Global, value: &Value) -> Result<Question, Unfit>
 }
 
 /// What `why` takes from an input.
-#[tactic(auto, using(crate::proofs::Formed::are_where_ok), unfolding(crate::specs::Answers::why_answer))]
+#[tactic(auto, unfolding(crate::specs::Answers::why_answer))]
 fn why_asked(alloc: Global, octets: &[u8]) -> Result<Question, Unfit>
     ensures fit { (form : LineForm) → IfOk result (λ asked. why_answer form octets.now
-        ≡ judged (answer_good (why_in form asked.valid.config asked.packets))) }
+        ≡ judged (answer_good (why_in form asked.valid asked.packets))) }
     ensures unfit { (form : LineForm) → IfErr result (λ unfit. IsUnfit unfit (why_answer form octets.now)) }
-    ensures in_form { OnOk result (AreAskedInForm octets.now) }
+    ensures read { IfOk result (λ asked. IsAskedOf octets.now asked.valid asked.packets) }
 {
     match value_of(alloc, octets) {
         Ok(Some(value)) => why_taken(alloc, &value),
@@ -192,7 +284,7 @@ fn why_asked(alloc: Global, octets: &[u8]) -> Result<Question, Unfit>
 }
 
 /// Writes what `why` answers to an input.
-#[tactic(auto, using(crate::proofs::Formed::where_answered, crate::proofs::Formed::never_answered))]
+#[tactic(auto, using(crate::proofs::TookReasons::took_explained))]
 pub(crate) fn answer_why<K: Sink>(
     alloc: Global,
     form: Form,
@@ -203,7 +295,8 @@ pub(crate) fn answer_why<K: Sink>(
         (K.taken sink.old) (K.taken sink.new)) }
     ensures front { OnErr result (TookFront (K.taken sink.old) (K.taken sink.new) (why_answer form octets.now).text) }
     ensures cause { HasWriteCause (K.faults sink.old) (K.faults sink.new) result }
-    ensures in_form { IfOk result (λ verdict. IsAnswer verdict → AreAskedInForm octets.now) }
+    ensures promise { IfOk result (λ verdict. IsAnswer verdict
+        → (status_of verdict ≡ Ended.Done) × TookExplained form octets.now (K.taken sink.old) (K.taken sink.new)) }
 {
     match why_asked(alloc, octets) {
         Ok(asked) => {

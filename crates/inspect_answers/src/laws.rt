@@ -35,7 +35,6 @@ pub fn other_values_are_no_expectations()
 {}
 
 /// The JSON of an outcome that is otherwise than is expected, and of how many are, reads as its value.
-#[tactic(auto, using(crate::proofs::ExpectReadBack::unmet_reads, crate::proofs::ExpectReadBack::counts_reads))]
 pub fn lines_of_expectations_read_as_their_values()
     ensures unmet { (c : Config) (n : ℕ) (e : Expectable) (o : Outcome) → IsTrue (has_config_form c) → n < 2 ^ 64
         → IsTrue (has_expected_size e) → IsTrue (has_outcome_size o) → IsReadBack (unmet_value c n e o) }

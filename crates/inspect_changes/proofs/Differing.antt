@@ -70,7 +70,7 @@ passages_are None (Some ys) h = absurd cc
 passages_are (Some xs) None h = absurd cc
 passages_are (Some xs) (Some ys) h = ap Some (services_are xs ys h)
 
-passage_itself : (o : Option (List ServiceNo)) → same_passage o o ≡ true
+pub passage_itself : (o : Option (List ServiceNo)) → same_passage o o ≡ true
 passage_itself None = refl
 passage_itself (Some xs) = services_themselves xs
 

@@ -5,3 +5,6 @@ pub mod WhatWent
 pub mod Throughout
 pub mod SomeLine
 pub mod Unchanged
+pub mod Alike
+pub mod Leading
+pub mod KeptPairs

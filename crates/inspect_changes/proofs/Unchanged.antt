@@ -1,5 +1,5 @@
 -- Where claims stay and their packets fare alike, there is no difference.
-use Rattle.std.proofs.Common.{◌≡◌, ◌&&◌, ℕ, Bool, true, false, cond, List, [], ◌∷◌, ◌++◌, Some, flat_map, refl, sym, ap, ◌∙◌, subst, arith}
+use Rattle.std.proofs.Common.{◌≡◌, ◌&&◌, ◌||◌, ℕ, Bool, true, false, cond, List, [], ◌∷◌, ◌++◌, Some, flat_map, refl, sym, ap, ◌∙◌, subst, arith}
 use Rattle.std.specs.List.{All, list_all}
 use Rattle.ov_types.proofs.FirstLemmas.{all_head, all_tail}
 use Rattle.std.proofs.lemmas.List.Elements.{All-cons}
@@ -14,8 +14,9 @@ use Rattle.policy_regions.proofs.Decided.{claimed}
 use Rattle.policy_regions.proofs.Said.{Said}
 use Rattle.policy_regions.proofs.Same.{claims_are}
 use Rattle.inspect_changes.specs.Fates.{differences_of, fate_by, passage, same_passage}
-use Rattle.inspect_changes.specs.Unchanged.{differences_by, stay, stays_by}
+use Rattle.inspect_changes.specs.Unchanged.{differences_by, lead_alike, stay, stays_by}
 use Rattle.inspect_changes.proofs.Differing.{and_first, and_second}
+use Rattle.inspect_changes.proofs.Leading.{all_stay}
 
 module _ (from to : List ℕ) (c d : Config) where
   abbrev P : Said → Type 0
@@ -38,11 +39,20 @@ module _ (from to : List ℕ) (c d : Config) where
       All-cons (λ (l : Claim). P (claimed l)) k ks (and_first (stays_by c d (Some k.decision) k.effect) rest h)
       (each_stays ks (and_second (stays_by c d (Some k.decision) k.effect) rest h))
 
-pub nothing_new : (c : Config) (a b : Network) (d : Config) (ks ls : List Claim) → stay c d ks ls ≡ true → differences_by c a b d ks ls ≡ []
-nothing_new c a b d ks ls h =
-    let rest : Bool = list_all (λ k. stays_by c d (Some k.decision) k.effect) ks in
-    let same : ks ≡ ls = claims_are ks ls (and_first (same_claims ks ls) rest h) in
-    let keep = each_stays a.name b.name c d ks (and_second (same_claims ks ls) rest h) in
+pub nothing_by : (c : Config) (a b : Network) (d : Config) (ks ls : List Claim) → ks ≡ ls
+    → list_all (λ k. stays_by c d (Some k.decision) k.effect) ks ≡ true → differences_by c a b d ks ls ≡ []
+nothing_by c a b d ks ls same h =
     subst (λ (ms : List Claim). differences_by c a b d ks ms ≡ []) same
     (all_none a.name b.name c d (laid_by ks ks)
-    (all_alike (P a.name b.name c d) ks refl keep))
+    (all_alike (P a.name b.name c d) ks refl (each_stays a.name b.name c d ks h)))
+
+either_stays : (c d : Config) (ks : List Claim) (q : Bool) → lead_alike c d ≡ q
+    → (q || list_all (λ k. stays_by c d (Some k.decision) k.effect) ks) ≡ true → list_all (λ k. stays_by c d (Some k.decision) k.effect) ks ≡ true
+either_stays c d ks true e h = all_stay c d ks e
+either_stays c d ks false e h = h
+
+pub nothing_new : (c : Config) (a b : Network) (d : Config) (ks ls : List Claim) → stay c d ks ls ≡ true → differences_by c a b d ks ls ≡ []
+nothing_new c a b d ks ls h =
+    let rest : Bool = lead_alike c d || list_all (λ k. stays_by c d (Some k.decision) k.effect) ks in
+    nothing_by c a b d ks ls (claims_are ks ls (and_first (same_claims ks ls) rest h))
+    (either_stays c d ks (lead_alike c d) refl (and_second (same_claims ks ls) rest h))

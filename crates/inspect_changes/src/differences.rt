@@ -2,21 +2,21 @@
 ghost use Rattle.std.specs.Prelude.{◌≡◌, ◌↔◌, Some, ◌==◌, ◌++◌, flat_map, option_map, option_to_list, IfOk, OnOk};
 ghost use Rattle.std.specs.List.{list_all, zip};
 ghost use Rattle.ov_types.specs.declared.packet.Tuple.{Tuple};
-ghost use Rattle.config_check.specs.Finding.{network_named};
 ghost use Rattle.policy_regions.specs.Parts.{IsTuple};
-ghost use Rattle.inspect_changes.specs.Unchanged.{differences_by, stay, stays_by};
+ghost use Rattle.inspect_changes.specs.Unchanged.{differences_by, differences_by_claims, differences_towards, differences_unless, lead_alike, stay, stays_by};
 ghost use Rattle.inspect_changes.specs.Fates.{differences_between, differences_of, fate_by, passage, same_passage, same_services};
-ghost use Rattle.inspect_changes.specs.Fates.{all_differences, differences_from, differences_to};
+ghost use Rattle.inspect_changes.specs.Fates.{all_differences};
 ghost use Rattle.inspect_changes.specs.Fates.{FaresOtherwise, IsOnDifference, IsOnOneDifferenceAtMost};
 ghost use Rattle.inspect_changes.specs.declared.fate.Fate.{Fate as Fared};
 
 use crate::fate::{Difference, Fate};
 use crate::services::services_through;
-use config_check::{Valid, network_named};
+use crate::standing::{Standing, lead_alike, standing_networks};
+use config_check::Valid;
 use config_types::Network;
 use ov_types::{Items, NoMemory, ServiceNo};
 use policy_regions::{
-    Claim, Compared, Effect, LastLaid, are_same, claims_between, overlay, regions_between,
+    Claim, Compared, Effect, LastLaid, Origin, are_same, overlay, regions_between,
 };
 use policy_rules::Decision;
 use std::alloc::Global;
@@ -189,10 +189,17 @@ fn fare_alike(before: &Valid, after: &Valid, claims: &[Claim]) -> bool
 }
 
 /// Whether claims in two configurations are the same, and their packets fare alike.
-fn stay(before: &Valid, after: &Valid, claims: &[Claim], claims_after: &[Claim]) -> bool
+fn stay(
+    before: &Valid,
+    after: &Valid,
+    alike: bool,
+    claims: &[Claim],
+    claims_after: &[Claim],
+) -> bool
+    requires { alike ≡ lead_alike before.now.config after.now.config }
     ensures { result ≡ stay before.now.config after.now.config claims.now claims_after.now }
 {
-    are_same(claims, claims_after) && fare_alike(before, after, claims)
+    are_same(claims, claims_after) && (alike || fare_alike(before, after, claims))
 }
 
 /// Appends the differences from one network to another by what the rules between them claim.
@@ -205,69 +212,79 @@ fn push_by_claims(
     from: &Network,
     to: &Network,
     after: &Valid,
+    alike: bool,
     claims: Vec<Claim>,
     claims_after: Vec<Claim>,
 ) -> Result<(), NoMemory>
+    requires { alike ≡ lead_alike before.now.config after.now.config }
     ensures { OnOk result (differences.new.items ≡ differences.old.items
         ++ differences_by before.now.config from.now to.now after.now.config claims.items claims_after.items) }
 {
-    if stay(before, after, &claims, &claims_after) {
+    if stay(before, after, alike, &claims, &claims_after) {
         return Ok(());
     }
     last.find(alloc, claims, claims_after)?;
     push_each(differences, from, to, before, after, last.compared())
 }
 
+/// A network that packets leave, as it stands in two configurations, and whether it is kept.
+#[derive(Drop)]
+struct Leaving<'a> {
+    before: Origin<'a>,
+    after: Origin<'a>,
+    is_kept: bool,
+}
+
 /// Appends the differences from one network to another.
-#[tactic(auto, using(reach_plain::proofs::Kept::few_rules))]
 fn push_between(
     alloc: Global,
     differences: &mut Vec<Difference>,
     last: &mut LastLaid,
     before: &Valid,
-    from: &Network,
-    to: &Network,
     after: &Valid,
-    from_after: &Network,
-    to_after: &Network,
+    alike: bool,
+    from: &Leaving<'_>,
+    to: &Standing<'_>,
 ) -> Result<(), NoMemory>
+    requires { alike ≡ lead_alike before.now.config after.now.config }
     ensures { OnOk result (differences.new.items ≡ differences.old.items
-        ++ differences_between before.now.config from.now to.now after.now.config from_after.now to_after.now) }
+        ++ differences_by_claims before.now.config after.now.config from.now.before from.now.after to.now) }
 {
-    let claims = claims_between(alloc, before.config(), from, to)?;
-    let claims_after = claims_between(alloc, after.config(), from_after, to_after)?;
+    let claims = from.before.claims_to(alloc, to.before())?;
+    let claims_after = from.after.claims_to(alloc, to.after())?;
     push_by_claims(
         alloc,
         differences,
         last,
         before,
-        from,
-        to,
+        from.before.network(),
+        to.before(),
         after,
+        alike,
         claims,
         claims_after,
     )
 }
 
-/// Appends the differences from one network to another, where that stands in both configurations.
+/// Appends the differences from one network to another, of which there are none where both are kept.
 fn push_to(
     alloc: Global,
     differences: &mut Vec<Difference>,
     last: &mut LastLaid,
     before: &Valid,
-    from: &Network,
-    to: &Network,
     after: &Valid,
-    from_after: &Network,
+    alike: bool,
+    from: &Leaving<'_>,
+    to: &Standing<'_>,
 ) -> Result<(), NoMemory>
+    requires { alike ≡ lead_alike before.now.config after.now.config }
     ensures { OnOk result (differences.new.items ≡ differences.old.items
-        ++ differences_to before.now.config from.now after.now.config from_after.now to.now
-        (network_named after.now.config to.now.name)) }
+        ++ differences_towards before.now.config after.now.config from.now.is_kept from.now.before from.now.after to.now) }
 {
-    let Some(to_after) = network_named(after.config(), &to.name) else {
+    if from.before.network().name == to.before().name {
         return Ok(());
-    };
-    if from.name == to.name {
+    }
+    if from.is_kept && to.is_kept() {
         return Ok(());
     }
     push_between(
@@ -275,28 +292,27 @@ fn push_to(
         differences,
         last,
         before,
+        after,
+        alike,
         from,
         to,
-        after,
-        from_after,
-        to_after,
     )
 }
 
-/// Appends the differences from one network, as it stands before and after, to each of others.
+/// Appends the differences from one network to each of others.
 fn push_to_each(
     alloc: Global,
     differences: &mut Vec<Difference>,
     last: &mut LastLaid,
     before: &Valid,
-    from: &Network,
-    others: &[Network],
     after: &Valid,
-    from_after: &Network,
+    alike: bool,
+    from: &Leaving<'_>,
+    others: &[Standing<'_>],
 ) -> Result<(), NoMemory>
+    requires { alike ≡ lead_alike before.now.config after.now.config }
     ensures { OnOk result (differences.new.items ≡ differences.old.items
-        ++ flat_map (λ b. differences_to before.now.config from.now after.now.config from_after.now b
-        (network_named after.now.config b.name)) others.now) }
+        ++ flat_map (differences_towards before.now.config after.now.config from.now.is_kept from.now.before from.now.after) others.now) }
 {
     for to in others {
         push_to(
@@ -304,41 +320,77 @@ fn push_to_each(
             differences,
             last,
             before,
+            after,
+            alike,
             from,
             to,
-            after,
-            from_after,
         )?;
     }
     Ok(())
 }
 
-/// Appends the differences from one network, where it stands in both configurations.
+/// Appends the differences from one network, with its policies found once, to each of others.
+#[tactic(auto, using(reach_plain::proofs::Kept::few_rules))]
 fn push_from(
     alloc: Global,
     differences: &mut Vec<Difference>,
     last: &mut LastLaid,
     before: &Valid,
-    from: &Network,
     after: &Valid,
+    alike: bool,
+    from: &Standing<'_>,
+    others: &[Standing<'_>],
 ) -> Result<(), NoMemory>
+    requires { alike ≡ lead_alike before.now.config after.now.config }
     ensures { OnOk result (differences.new.items ≡ differences.old.items
-        ++ differences_from before.now.config from.now after.now.config
-        (network_named after.now.config from.now.name)) }
+        ++ flat_map (differences_unless before.now.config after.now.config from.now) others.now) }
 {
-    let Some(from_after) = network_named(after.config(), &from.name) else {
-        return Ok(());
+    let origin = Origin::new(alloc, before.config(), from.before())?;
+    let origin_after = Origin::new(alloc, after.config(), from.after())?;
+    let leaving = Leaving {
+        before: origin,
+        after: origin_after,
+        is_kept: from.is_kept(),
     };
     push_to_each(
         alloc,
         differences,
         last,
         before,
-        from,
-        before.config().networks.as_slice(),
         after,
-        from_after,
+        alike,
+        &leaving,
+        others,
     )
+}
+
+/// Appends the differences from each of networks to each.
+fn push_all(
+    alloc: Global,
+    differences: &mut Vec<Difference>,
+    before: &Valid,
+    after: &Valid,
+    alike: bool,
+    networks: &[Standing<'_>],
+) -> Result<(), NoMemory>
+    requires { alike ≡ lead_alike before.now.config after.now.config }
+    ensures { OnOk result (differences.new.items ≡ differences.old.items
+        ++ flat_map (λ s. flat_map (differences_unless before.now.config after.now.config s) networks.now) networks.now) }
+{
+    let mut last = LastLaid::new(alloc)?;
+    for from in networks {
+        push_from(
+            alloc,
+            differences,
+            &mut last,
+            before,
+            after,
+            alike,
+            from,
+            networks,
+        )?;
+    }
+    Ok(())
 }
 
 /// The differences between two configurations: those between each two networks that stand in both.
@@ -349,10 +401,16 @@ pub fn all_differences(
 ) -> Result<Vec<Difference>, NoMemory>
     ensures { IfOk result (λ v. v.items ≡ all_differences before.now.config after.now.config) }
 {
-    let mut last = LastLaid::new(alloc)?;
+    let alike = lead_alike(before.config(), after.config());
+    let networks = standing_networks(alloc, before, after, alike)?;
     let mut differences = Vec::new(alloc);
-    for from in before.config().networks.as_slice() {
-        push_from(alloc, &mut differences, &mut last, before, from, after)?;
-    }
+    push_all(
+        alloc,
+        &mut differences,
+        before,
+        after,
+        alike,
+        &networks,
+    )?;
     Ok(differences)
 }

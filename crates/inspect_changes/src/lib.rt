@@ -10,6 +10,7 @@ mod lines;
 mod objects;
 mod pairs;
 mod services;
+mod standing;
 mod way;
 mod ways;
 

@@ -20,34 +20,8 @@ use Rattle.serde_json.proofs.Numbers.{number_of-decimal}
 use Rattle.serde_json.proofs.Texts.{print-outline}
 use Rattle.ov_json.proofs.JsonLaws.{json_of_text}
 use Rattle.inspect_json.specs.Form.{IsReadBack}
-
--- the members, each read
-abbrev pub read_one_by_one : Members → Members → Members
-read_one_by_one no_members found = found
-read_one_by_one (member name d ms) found = read_one_by_one ms (put name d found)
-
--- a value whose numbers are whole, of 64 bits and not below zero, whose texts are UTF-8, whose members are in order, and that
--- nests at most so deep
-abbrev mutual
-  pub IsFit : ℕ → Data → Type 0
-  IsFit k null = ⊤
-  IsFit k (boolean b) = ⊤
-  IsFit k (number (unsigned n)) = n < 2 ^ 64
-  IsFit k (number (negative z)) = ⊥
-  IsFit k (number (float x)) = ⊥
-  IsFit k (string s) = IsUtf8 s
-  IsFit zero (array ds) = ⊥
-  IsFit (suc k) (array ds) = AreFit k ds
-  IsFit zero (object ms) = ⊥
-  IsFit (suc k) (object ms) = HasFit k ms × (read_one_by_one ms no_members ≡ ms)
-
-  pub AreFit : ℕ → Items → Type 0
-  AreFit k no_items = ⊤
-  AreFit k (item d ds) = IsFit k d × AreFit k ds
-
-  pub HasFit : ℕ → Members → Type 0
-  HasFit k no_members = ⊤
-  HasFit k (member name d ms) = IsUtf8 name × IsFit k d × HasFit k ms
+pub use Rattle.inspect_json.proofs.Fits.{AreFit, HasFit, IsFit, read_one_by_one}
+use Rattle.inspect_json.proofs.OneLine.{one_line}
 
 mutual
   reads : (k : ℕ) (d : Data) → IsFit k d → of_json (outline d) ≡ Some d
@@ -167,4 +141,7 @@ is_read k d h shallow =
 
 -- a value that is fit and not too deep is what its text reads as
 pub is_read_back : (k : ℕ) (d : Data) → IsFit k d → k < 127 → IsReadBack d
-is_read_back k d h shallow = sym (json_of_text (compact_text d) (is_text k d h)) ∙ is_read k d h shallow
+is_read_back k d h shallow = record {
+  reads = sym (json_of_text (compact_text d) (is_text k d h)) ∙ is_read k d h shallow;
+  one_line = one_line k d h;
+}

@@ -26,6 +26,14 @@ use Rattle.inspect_reasons.specs.declared.cause.Cause.{Cause}
 use Rattle.inspect_reasons.specs.declared.cause.Cause.TheVariants as Of
 use Rattle.inspect_reasons.specs.declared.cause.Condition.{Condition}
 use Rattle.inspect_json.specs.ReasonValues.{attached_value, cause_value, decided_value, explained_value, mirrored_value, near_value, placed_value, skipped_value}
+use Rattle.ov_types.specs.Prefix.{Block}
+use Rattle.ov_types.specs.declared.rows.Entry.{Entry}
+use Rattle.inspect_walks.specs.declared.told_step.LeadsTo.{LeadsTo}
+use Rattle.inspect_walks.specs.declared.told_step.LeadsTo.TheVariants as To
+use Rattle.inspect_walks.specs.declared.told_step.Owner.{Owner}
+use Rattle.inspect_walks.specs.declared.told_step.Owner.TheVariants as Walked
+use Rattle.inspect_walks.specs.declared.told_step.ToldStep.{ToldStep}
+use Rattle.inspect_json.specs.WalkValues.{end_value, entry_value, hop_value, leads_value, owner_value, row_value, step_value}
 use Rattle.inspect_json.specs.Values.{name_value, passage_services, policy_name, rule_value, service_name, service_value, way_value}
 
 lists : {A : Type 0} (value : A → Data) → ((x : A) → has_float (value x) ≡ false) → (xs : List A) → items_have_float (items_of (map value xs)) ≡ false
@@ -133,6 +141,27 @@ cause (Of.Decided r policy mirrored) = rw (placed r policy) refl
 cause (Of.Attached network policy) = refl
 cause (Of.Unrelated network) = refl
 
-pub explained : (c : Config) (n : ℕ) (o : Outcome) (xs : List Cause) → has_float (explained_value c n o xs) ≡ false
+owner : (o : Owner) → has_float (owner_value o) ≡ false
+unfolding network_value hop_value
+owner (Walked.Network name) = refl
+owner (Walked.Hop h) = refl
+owner Walked.Nothing = refl
+
+row : (r : Option (Block × Entry)) → has_float (row_value r) ≡ false
+unfolding entry_value
+row None = refl
+row (Some r) = refl
+
+leads : (l : LeadsTo) → has_float (leads_value l) ≡ false
+unfolding end_value
+leads (To.Port port name) = rw (names name) refl
+leads (To.Service service name) = rw (names name) refl
+leads To.Nothing = refl
+
+step : (s : ToldStep) → has_float (step_value s) ≡ false
+unfolding step_value
+step s = rw (names s.agent, owner s.owner, row s.row, leads s.leads) refl
+
+pub explained : (c : Config) (n : ℕ) (o : Outcome) (xs : List Cause) (walk : List ToldStep) → has_float (explained_value c n o xs walk) ≡ false
 unfolding explained_value
-explained c n o xs = rw (lists cause_value cause xs, outcome c o) refl
+explained c n o xs walk = rw (lists cause_value cause xs, outcome c o, lists step_value step walk) refl

@@ -198,16 +198,16 @@ ports_form c h =
 digits : (n : ℕ) → n < 2 ^ 64 → IsUtf8 (decimal n)
 digits n h = IsUtf8-from_ascii (decimal n) (IsAscii-decimal n h)
 
-address : (n : ℕ) → IsUtf8 (address_text n)
+pub address : (n : ℕ) → IsUtf8 (address_text n)
 address n =
     IsUtf8-append _ _ (digits (n / 16777216 % 256) (omega arith)) (IsUtf8-append _ _ (word (codes ".") refl)
     (IsUtf8-append _ _ (digits (n / 65536 % 256) (omega arith)) (IsUtf8-append _ _ (word (codes ".") refl)
     (IsUtf8-append _ _ (digits (n / 256 % 256) (omega arith)) (IsUtf8-append _ _ (word (codes ".") refl) (digits (n % 256) (omega arith)))))))
 
-prefix : (b : Block) → nat_le b.len 255 ≡ true → IsUtf8 (prefix_text b)
+pub prefix : (b : Block) → nat_le b.len 255 ≡ true → IsUtf8 (prefix_text b)
 prefix b h = IsUtf8-append _ _ (address b.addr) (IsUtf8-append _ _ (word (codes "/") refl) (digits b.len (omega (arith, leb-true b.len 255 h))))
 
-network : (k : ℕ) (name : List ℕ) → is_name name ≡ true → IsFit (suc k) (network_value name)
+pub network : (k : ℕ) (name : List ℕ) → is_name name ≡ true → IsFit (suc k) (network_value name)
 unfolding network_value
 network k name h = ((word (codes "kind") refl, word (codes "network") refl, (word (codes "name") refl, name_is_utf8 name h, tt)), refl)
 

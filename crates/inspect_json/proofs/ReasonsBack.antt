@@ -23,26 +23,27 @@ use Rattle.inspect_reasons.specs.declared.cause.Condition.TheVariants.{Protocol,
 use Rattle.inspect_json.specs.Form.{IsReadBack}
 use Rattle.inspect_json.specs.OutcomeValues.{delivered_value, denier_value, dropped_value, outcome_value, port_number_value, why_rule, why_word}
 use Rattle.inspect_json.specs.ReasonValues.{attached_value, cause_value, decided_value, explained_value, mirrored_value, near_value, placed_value, skipped_value}
-use Rattle.inspect_json.specs.Sizes.{has_cause_size, has_outcome_size, has_policy_size, has_rule_size}
+use Rattle.inspect_walks.specs.Lines.{step_text}
+use Rattle.inspect_walks.specs.Sizes.{has_name_size, has_step_size}
+use Rattle.inspect_walks.specs.declared.told_step.ToldStep.{ToldStep}
+use Rattle.inspect_json.specs.Sizes.{has_cause_size, has_outcome_size, has_rule_size}
 use Rattle.inspect_json.specs.Values.{list_value, name_value, rule_value, service_value}
 use Rattle.inspect_json.proofs.Fit.{IsFit, is_read_back}
 use Rattle.inspect_json.proofs.ReadBack.{lists, outcome, small, word}
+use Rattle.inspect_json.specs.WalkValues.{step_value}
 use Rattle.inspect_json.proofs.SameSaid.{after, body, first, items, letter, size, text, whole}
+use Rattle.inspect_json.proofs.WalksBack.{name_fits, step, step_back, step_in}
 
 -- the text reads as the value
 
-policy_fits : (k : ℕ) (policy : Option (List ℕ)) → has_policy_size policy ≡ true → IsFit k (name_value policy)
-policy_fits k None h = tt
-policy_fits k (Some name) h = name_is_utf8 name h
-
-placed : (k : ℕ) (r : RuleNo) (policy : Option (List ℕ)) → (has_rule_size r && has_policy_size policy) ≡ true → IsFit (suc k) (placed_value r policy)
+placed : (k : ℕ) (r : RuleNo) (policy : Option (List ℕ)) → (has_rule_size r && has_name_size policy) ≡ true → IsFit (suc k) (placed_value r policy)
 unfolding placed_value
 placed k r policy h =
-    let a = and_parts (has_rule_size r) (has_policy_size policy) h in
+    let a = and_parts (has_rule_size r) (has_name_size policy) h in
     let p = and_parts (nat_le r.sequence 65535) (nat_le r.position 65535) a.0 in (
       (
         word (codes "policy") refl,
-        policy_fits k policy a.1,
+        name_fits k policy a.1,
         (word (codes "position") refl, small r.position p.1, (word (codes "sequence") refl, small r.sequence p.0, tt)),
       ),
       refl,
@@ -113,18 +114,22 @@ cause k (Of.Attached network policy) h =
     )
 cause k (Of.Unrelated network) h = near (suc k) (codes "unrelated") network (word (codes "unrelated") refl) h
 
-pub explained_reads : (c : Config) (n : ℕ) (o : Outcome) (xs : List Cause) → IsTrue (has_config_form c) → n < 2 ^ 64 → IsTrue (has_outcome_size o)
-    → IsTrue (list_all has_cause_size xs) → IsReadBack (explained_value c n o xs)
+pub explained_reads : (c : Config) (n : ℕ) (o : Outcome) (xs : List Cause) (walk : List ToldStep) → IsTrue (has_config_form c) → n < 2 ^ 64
+    → IsTrue (has_outcome_size o) → IsTrue (list_all has_cause_size xs) → IsTrue (list_all has_step_size walk) → IsReadBack (explained_value c n o xs walk)
 unfolding explained_value
-explained_reads c n o xs form few h each =
-    is_read_back 4 (explained_value c n o xs) (
+explained_reads c n o xs walk form few h each steps =
+    is_read_back 4 (explained_value c n o xs walk) (
       (
         word (codes "causes") refl,
         lists 2 cause_value has_cause_size (cause 0) xs each,
         (
           word (codes "outcome") refl,
           outcome c o form h,
-          (word (codes "packet") refl, few, tt),
+          (
+            word (codes "packet") refl,
+            few,
+            (word (codes "walk") refl, lists 2 step_value has_step_size (step 0) walk steps, tt),
+          ),
         ),
       ),
       refl,
@@ -252,11 +257,16 @@ outcome_back c (Comes.Dropped why) = ap (λ (w : Why). Comes.Dropped w) (why_bac
 pub outcome_says : (c d : Config) (o p : Outcome) → outcome_value c o ≡ outcome_value d p → o ≡ p
 outcome_says c d o p h = sym (outcome_back c o) ∙ ap outcome_in h ∙ outcome_back d p
 
-pub explained_says : (c d : Config) (n m : ℕ) (o p : Outcome) (xs ys : List Cause) → explained_value c n o xs ≡ explained_value d m p ys
-    → (n ≡ m) × (o ≡ p) × (xs ≡ ys)
+texts_back : (walk : List ToldStep) → list_in step_in (items_of (map step_value walk)) ≡ map step_text walk
+texts_back [] = refl
+texts_back (s ∷ ss) = λ i. step_back s i ∷ texts_back ss i
+
+pub explained_says : (c d : Config) (n m : ℕ) (o p : Outcome) (xs ys : List Cause) (walk other : List ToldStep)
+    → explained_value c n o xs walk ≡ explained_value d m p ys other → (n ≡ m) × (o ≡ p) × (xs ≡ ys) × (map step_text walk ≡ map step_text other)
 unfolding explained_value
-explained_says c d n m o p xs ys h = (
+explained_says c d n m o p xs ys walk other h = (
   ap (λ (d : Data). whole (first (after (after (body d))))) h,
   outcome_says c d o p (ap (λ (d : Data). first (after (body d))) h),
   sym (list_back cause_in cause_value cause_back xs) ∙ ap (λ (d : Data). list_in cause_in (items (first (body d)))) h ∙ list_back cause_in cause_value cause_back ys,
+  sym (texts_back walk) ∙ ap (λ (d : Data). list_in step_in (items (first (after (after (after (body d))))))) h ∙ texts_back other,
 )

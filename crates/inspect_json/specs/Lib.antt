@@ -5,5 +5,6 @@ pub mod ChangeValues
 pub mod ChangeLines
 pub mod IdleValues
 pub mod OutcomeValues
+pub mod WalkValues
 pub mod ReasonValues
 pub mod Sizes

@@ -8,8 +8,10 @@ use Rattle.inspect_reasons.specs.CauseLines.{condition_text, reading_text}
 use Rattle.inspect_reasons.specs.declared.cause.Cause.{Cause}
 use Rattle.inspect_reasons.specs.declared.cause.Cause.TheVariants as Of
 use Rattle.inspect_reasons.specs.declared.cause.Condition.{Condition}
+use Rattle.inspect_walks.specs.declared.told_step.ToldStep.{ToldStep}
 use Rattle.inspect_json.specs.OutcomeValues.{outcome_value}
 use Rattle.inspect_json.specs.Values.{list_value, name_value, number_value}
+use Rattle.inspect_json.specs.WalkValues.{step_value}
 
 -- what fails of a rule read mirrored, and `null` where it is of one direction
 abbrev pub mirrored_value : Option Condition → Data
@@ -52,8 +54,9 @@ cause_value (Of.Decided rule policy mirrored) = decided_value rule policy mirror
 cause_value (Of.Attached network policy) = attached_value network policy
 cause_value (Of.Unrelated network) = near_value (codes "unrelated") network
 
--- the number of a packet, its outcome, and what that comes of
-unfoldable pub explained_value : Config → ℕ → Outcome → List Cause → Data
-explained_value c n outcome causes = object (member (codes "causes") (list_value cause_value causes)
+-- the number of a packet, its outcome, what that comes of, and its walk
+unfoldable pub explained_value : Config → ℕ → Outcome → List Cause → List ToldStep → Data
+explained_value c n outcome causes walk = object (member (codes "causes") (list_value cause_value causes)
     (member (codes "outcome") (outcome_value c outcome)
-    (member (codes "packet") (number_value n) no_members)))
+    (member (codes "packet") (number_value n)
+    (member (codes "walk") (list_value step_value walk) no_members))))

@@ -21,6 +21,7 @@ use Rattle.inspect_rules.specs.declared.idle.Idle.{Idle}
 use Rattle.inspect_rules.specs.declared.idle.Idle.TheVariants.{Rule, Policy, Chain}
 use Rattle.inspect_reasons.specs.declared.cause.Cause.{Cause}
 use Rattle.inspect_reasons.specs.declared.cause.Cause.TheVariants as Of
+use Rattle.inspect_walks.specs.Sizes.{has_name_size}
 use Rattle.inspect_json.specs.Values.{passage_services}
 
 abbrev pub has_range_size : Range16 → Bool
@@ -73,14 +74,10 @@ abbrev pub has_outcome_size : Outcome → Bool
 has_outcome_size (Comes.Delivered port services) = has_delivery_size port services
 has_outcome_size (Comes.Dropped why) = has_why_size why
 
-abbrev pub has_policy_size : Option (List ℕ) → Bool
-has_policy_size None = true
-has_policy_size (Some name) = is_name name
-
 abbrev pub has_cause_size : Cause → Bool
 has_cause_size (Of.From network) = is_name network
 has_cause_size (Of.To network) = is_name network
-has_cause_size (Of.Skipped rule policy forwards mirrored) = has_rule_size rule && has_policy_size policy
-has_cause_size (Of.Decided rule policy mirrored) = has_rule_size rule && has_policy_size policy
+has_cause_size (Of.Skipped rule policy forwards mirrored) = has_rule_size rule && has_name_size policy
+has_cause_size (Of.Decided rule policy mirrored) = has_rule_size rule && has_name_size policy
 has_cause_size (Of.Attached network policy) = is_name network && is_name policy
 has_cause_size (Of.Unrelated network) = is_name network

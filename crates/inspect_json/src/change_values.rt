@@ -26,20 +26,20 @@ pub(crate) fn port_name(config: &Config, number: u32) -> Option<Name>
     }
 }
 
-fn address_value(alloc: Global, address: Addr) -> Result<Value, AllocError>
+pub(crate) fn address_value(alloc: Global, address: Addr) -> Result<Value, AllocError>
     ensures { IfOk result (λ v. view v ≡ string (address_text address.0)) }
 {
     Ok(Value::String(format!(in alloc; "{address}")?))
 }
 
-fn prefix_value(alloc: Global, prefix: Prefix) -> Result<Value, AllocError>
+pub(crate) fn prefix_value(alloc: Global, prefix: Prefix) -> Result<Value, AllocError>
     ensures { IfOk result (λ v. view v ≡ string (prefix_text prefix)) }
 {
     Ok(Value::String(format!(in alloc; "{prefix}")?))
 }
 
 #[tactic(auto, unfolding(crate::specs::ChangeValues::network_value))]
-fn network_value(alloc: Global, name: &Name) -> Result<Value, AllocError>
+pub(crate) fn network_value(alloc: Global, name: &Name) -> Result<Value, AllocError>
     ensures { IfOk result (λ v. view v ≡ network_value name.now) }
 {
     let name = name.text();

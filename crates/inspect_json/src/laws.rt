@@ -1,5 +1,5 @@
 //! What lines in a form promise, as laws: each is the contract of a function that does nothing.
-ghost use Rattle.std.specs.Prelude.{◌≡◌, ◌<◌, ◌^◌, ℕ, List, IsTrue, None, Some};
+ghost use Rattle.std.specs.Prelude.{◌≡◌, ◌<◌, ◌^◌, ℕ, List, IsTrue, None, Some, map};
 ghost use Rattle.std.specs.List.{Contains, list_all};
 ghost use Rattle.ov_types.specs.Name.{is_name};
 ghost use Rattle.ov_types.specs.declared.packet.Outcome.{Outcome};
@@ -18,6 +18,9 @@ ghost use Rattle.inspect_changes.specs.declared.pairs.Pairs.{Pairs};
 ghost use Rattle.inspect_changes.specs.declared.way.Way.{Way};
 ghost use Rattle.inspect_rules.specs.declared.idle.Idle.{Idle};
 ghost use Rattle.inspect_reasons.specs.declared.cause.Cause.{Cause};
+ghost use Rattle.inspect_walks.specs.Lines.{step_text};
+ghost use Rattle.inspect_walks.specs.Sizes.{has_step_size};
+ghost use Rattle.inspect_walks.specs.declared.told_step.ToldStep.{ToldStep};
 ghost use Rattle.inspect_json.specs.ChangeLines.{diff_in};
 ghost use Rattle.inspect_json.specs.ChangeValues.{came_value, difference_value, port_name, went_value};
 ghost use Rattle.inspect_json.specs.Form.{IsReadBack};
@@ -61,12 +64,15 @@ pub fn what_is_idle_reads_as_its_value()
     ensures says { (c d : Config) (x y : Idle) → idle_value c x ≡ idle_value d y → x ≡ y }
 {}
 
-/// The JSON of why a packet has its outcome reads as its value, and two of one value say one thing of a packet.
+/// The JSON of why a packet has its outcome, and of its walk, reads as its value, and two of one value say one thing of a
+/// packet, with the same lines of steps.
 pub fn reasons_read_as_their_values()
-    ensures reads { (c : Config) (n : ℕ) (o : Outcome) (xs : List Cause) → IsTrue (has_config_form c) → n < 2 ^ 64
-        → IsTrue (has_outcome_size o) → IsTrue (list_all has_cause_size xs) → IsReadBack (explained_value c n o xs) }
-    ensures says { (c d : Config) (n m : ℕ) (o p : Outcome) (xs ys : List Cause) → explained_value c n o xs ≡ explained_value d m p ys
-        → (n ≡ m) × (o ≡ p) × (xs ≡ ys) }
+    ensures reads { (c : Config) (n : ℕ) (o : Outcome) (xs : List Cause) (walk : List ToldStep) → IsTrue (has_config_form c) → n < 2 ^ 64
+        → IsTrue (has_outcome_size o) → IsTrue (list_all has_cause_size xs) → IsTrue (list_all has_step_size walk)
+        → IsReadBack (explained_value c n o xs walk) }
+    ensures says { (c d : Config) (n m : ℕ) (o p : Outcome) (xs ys : List Cause) (walk other : List ToldStep)
+        → explained_value c n o xs walk ≡ explained_value d m p ys other
+        → (n ≡ m) × (o ≡ p) × (xs ≡ ys) × (map step_text walk ≡ map step_text other) }
 {}
 
 /// In a valid configuration the name beside a number is that of the policy, the service or the port that has this number.

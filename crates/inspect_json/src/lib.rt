@@ -13,6 +13,7 @@ mod outcome_values;
 mod reason_lines;
 mod reason_values;
 mod values;
+mod walk_values;
 mod way_lines;
 
 pub use change_lines::{CameIn, DifferencesIn, WentIn};

@@ -8,8 +8,10 @@ ghost use Rattle.inspect_json.specs.Values.{list_value};
 
 use crate::outcome_values::outcome_value;
 use crate::values::name_value;
+use crate::walk_values::walk_value;
 use config_types::Config;
 use inspect_reasons::{Cause, Condition};
+use inspect_walks::ToldStep;
 use ov_types::{Name, Outcome, RuleNo};
 use serde_json::{Value, json};
 use std::alloc::{AllocError, Global};
@@ -142,7 +144,7 @@ fn causes_value(alloc: Global, causes: &[Cause]) -> Result<Value, AllocError>
     Ok(Value::Array(values))
 }
 
-/// The number of a packet, its outcome, and what that comes of.
+/// The number of a packet, its outcome, what that comes of, and its walk.
 #[tactic(auto, unfolding(crate::specs::ReasonValues::explained_value))]
 pub(crate) fn explained_value(
     alloc: Global,
@@ -150,10 +152,12 @@ pub(crate) fn explained_value(
     number: usize,
     outcome: &Outcome,
     causes: &[Cause],
+    walk: &[ToldStep],
 ) -> Result<Value, AllocError>
-    ensures { IfOk result (λ v. view v ≡ explained_value config.now number outcome.now causes.now) }
+    ensures { IfOk result (λ v. view v ≡ explained_value config.now number outcome.now causes.now walk.now) }
 {
     let outcome = outcome_value(alloc, config, outcome)?;
     let causes = causes_value(alloc, causes)?;
-    json!(in alloc; {"causes": causes, "outcome": outcome, "packet": number})
+    let walk = walk_value(alloc, walk)?;
+    json!(in alloc; {"causes": causes, "outcome": outcome, "packet": number, "walk": walk})
 }

@@ -41,10 +41,10 @@ number_self n = grind arith
 number_is : (m n : ℕ) → (m == n) ≡ true → m ≡ n
 number_is m n h = grind arith
 
-rule_self : (n : RuleNo) → same_rule n n ≡ true
+pub rule_self : (n : RuleNo) → same_rule n n ≡ true
 rule_self n = and_from (n.sequence == n.sequence) (n.position == n.position) (number_self n.sequence) (number_self n.position)
 
-rule_is : (m n : RuleNo) → same_rule m n ≡ true → m ≡ n
+pub rule_is : (m n : RuleNo) → same_rule m n ≡ true → m ≡ n
 rule_is m n h =
     let p = and_parts (m.sequence == n.sequence) (m.position == n.position) h in
     let sequence = number_is m.sequence n.sequence p.0 in
@@ -53,7 +53,7 @@ rule_is m n h =
 
 -- what a region holds
 
-abbrev corner : Region → Tuple
+abbrev pub corner : Region → Tuple
 corner r = record { proto = r.protocols.lo; sport = r.source_ports.lo; dport = r.destination_ports.lo }
 
 in_parts : (r : Range16) (last : ℕ) → has_one_to r last ≡ true → (r.lo ≤ r.hi) × (r.lo ≤ last)
@@ -61,7 +61,7 @@ in_parts r last h =
     let p = and_parts (leb r.lo r.hi) (leb r.lo last) h in
     (leb-true r.lo r.hi p.0, leb-true r.lo last p.1)
 
-corner_is_held : (r : Region) → holds_some r ≡ true → IsTuple (corner r) × IsTrue (holds r (corner r))
+pub corner_is_held : (r : Region) → holds_some r ≡ true → IsTuple (corner r) × IsTrue (holds r (corner r))
 corner_is_held r h =
     let p = and_parts (has_one_to r.protocols 255) (has_one_to r.source_ports 65535 && has_one_to r.destination_ports 65535) h in
     let q = and_parts (has_one_to r.source_ports 65535) (has_one_to r.destination_ports 65535) p.1 in
@@ -80,7 +80,7 @@ has_one : (r : Range16) (n last : ℕ) → r.lo ≤ n → n ≤ r.hi → n ≤ l
 has_one r n last from to small =
     and_from (leb r.lo r.hi) (leb r.lo last) (le-leb r.lo r.hi (omega (arith, from, to))) (le-leb r.lo last (omega (arith, from, small)))
 
-some_are_held : (r : Region) (t : Tuple) → IsTuple t → IsTrue (holds r t) → holds_some r ≡ true
+pub some_are_held : (r : Region) (t : Tuple) → IsTuple t → IsTrue (holds r t) → holds_some r ≡ true
 some_are_held r t h at =
     let k = (holds_iff r t).0 at in
     and_from (has_one_to r.protocols 255) (has_one_to r.source_ports 65535 && has_one_to r.destination_ports 65535)
@@ -149,7 +149,7 @@ some_decides c number h =
     decided c number first.1 second.1 third.1 (first.0, first.2, first.3) (second.0, second.2, second.3)
     (differ_is first.1.name second.1.name (same_name first.1.name second.1.name) refl p.0) (third.0, third.2, third.3) third.4
 
-any_true : {A : Type 0} (p : A → Bool) (xs : List A) (x : A) → Contains xs x → p x ≡ true → list_any p xs ≡ true
+pub any_true : {A : Type 0} (p : A → Bool) (xs : List A) (x : A) → Contains xs x → p x ≡ true → list_any p xs ≡ true
 any_true p xs x at h = list_any-from_Any p xs (any_of (λ x. p x ≡ true) xs x at h)
 
 decides_some_of : (c : Config) (number : RuleNo) → DecidesSome c number → decides_some c number ≡ true

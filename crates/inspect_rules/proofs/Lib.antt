@@ -1,2 +1,4 @@
 pub mod Deciding
 pub mod Unneeded
+pub mod Claimants
+pub mod Attaching

@@ -1,5 +1,5 @@
 -- Which rules decide packets.
-use Rattle.std.specs.Prelude.{◌≡◌, ◌≢◌, ◌==◌, ◌&&◌, ℕ, nat_le, Bool, false, not, Option, Some, None}
+use Rattle.std.specs.Prelude.{◌≡◌, ◌≢◌, ◌==◌, ◌&&◌, ◌||◌, ℕ, nat_le, Bool, false, not, List, [], ◌∷◌, ◌++◌, Option, Some, None}
 use Rattle.std.specs.List.{Contains, list_any}
 use Rattle.std.specs.BTreeSet.{BTreeSet, contains}
 use Rattle.ov_types.specs.contracts.packet.RuleNoOrd.TheImpl as numbers
@@ -12,8 +12,10 @@ use Rattle.config_types.specs.declared.config.Network.{Network}
 use Rattle.policy_rules.specs.declared.matching.Decision.{Decision}
 use Rattle.policy_rules.specs.declared.matching.Match.{Match}
 use Rattle.policy_rules.specs.Taking.{IsDeciding}
+use Rattle.policy_regions.specs.Carved.{left_after}
 use Rattle.policy_regions.specs.Joined.{regions_between}
 use Rattle.policy_regions.specs.Parts.{IsTuple}
+use Rattle.policy_regions.specs.declared.region.Claim.{Claim}
 use Rattle.policy_regions.specs.declared.region.DecidedRegion.{DecidedRegion}
 use Rattle.policy_regions.specs.declared.region.Region.{Region}
 
@@ -35,6 +37,16 @@ is_by number (Some d) = same_rule d.rule number
 -- a region holds the tuple of a packet, and the rule of this number decides on it
 abbrev pub is_decided_by : RuleNo → DecidedRegion → Bool
 is_decided_by number r = holds_some r.region && is_by number r.decision
+
+-- the rule of this number makes a claim to which claims before it leave the tuple of a packet
+abbrev pub claim_decides : RuleNo → List Claim → Claim → Bool
+claim_decides number before k =
+    same_rule k.decision.rule number && list_any holds_some (left_after before (k.region ∷ []))
+
+-- the rule of this number makes such a claim among some, each behind those before it
+abbrev pub claims_decide : RuleNo → List Claim → List Claim → Bool
+claims_decide number before [] = false
+claims_decide number before (k ∷ ks) = claim_decides number before k || claims_decide number (before ++ k ∷ []) ks
 
 -- the rule of this number decides on a packet from one network to another
 abbrev pub decides_between : Config → RuleNo → Network → Network → Bool

@@ -34,6 +34,10 @@ attaches_both c m n a = attaches_rule c a m.number && attaches_rule c a n.number
 abbrev pub speaks_between : Rule → Network → Network → Bool
 speaks_between r a b = fits r a b || fits r b a
 
+-- both of two rules speak of packets between two networks
+abbrev pub both_speak : NumberedRule → NumberedRule → Network → Network → Bool
+both_speak m n a b = not (same_name a.name b.name) && (speaks_between m.rule a b && speaks_between n.rule a b)
+
 -- two rules stand between two networks, of which the first attaches the policies of both
 abbrev pub both_between : Config → NumberedRule → NumberedRule → Network → Network → Bool
 both_between c m n a b =

@@ -1,8 +1,7 @@
 //! The rules that stand before a rule.
-ghost use Rattle.std.specs.Prelude.{◌≡◌, ◌++◌, ◌&&◌, flat_map, IfOk, OnOk};
+ghost use Rattle.std.specs.Prelude.{◌≡◌, ◌++◌, ◌&&◌, filter, flat_map, map, IfOk, OnOk};
 ghost use Rattle.std.specs.List.{list_any};
-ghost use Rattle.inspect_rules.specs.Idle as idle;
-ghost use Rattle.inspect_rules.specs.Idle.{attaches_rule, before_of, comes_before};
+ghost use Rattle.inspect_rules.specs.Idle.{attaches_rule, before_of, both_speak, comes_before};
 ghost use Rattle.inspect_rules.specs.Idle.{speaks_between, stands_before};
 
 use config_types::{Config, Network, Rule};
@@ -25,15 +24,41 @@ fn attaches_rule(config: &Config, network: &Network, rule: RuleNo) -> bool
         && attaches(network, policy))
 }
 
-fn attach_both(
-    config: &Config,
-    rule: &NumberedRule,
-    other: &NumberedRule,
-    network: &Network,
-) -> bool
-    ensures { result ≡ idle.attaches_both config.now rule.now other.now network.now }
+/// The networks of a configuration that attach the policy of the rule of this number.
+fn attaching<'a>(
+    alloc: Global,
+    config: &'a Config,
+    rule: RuleNo,
+) -> Result<Vec<&'a Network>, NoMemory>
+    ensures { IfOk result (λ v. map (λ a. a.now) v.items
+        ≡ filter (λ a. attaches_rule config.now a rule) config.now.networks) }
 {
-    attaches_rule(config, network, rule.number) && attaches_rule(config, network, other.number)
+    let mut networks = Vec::new(alloc);
+    for network in config.networks.as_slice() {
+        if attaches_rule(config, network, rule) {
+            networks.push(network)?;
+        }
+    }
+    Ok(networks)
+}
+
+/// Those of networks that attach the policy of the rule of this number too.
+fn also_attaching<'a>(
+    alloc: Global,
+    config: &Config,
+    networks: &[&'a Network],
+    rule: RuleNo,
+) -> Result<Vec<&'a Network>, NoMemory>
+    ensures { IfOk result (λ v. map (λ a. a.now) v.items
+        ≡ filter (λ a. attaches_rule config.now a rule) (map (λ a. a.now) networks.now)) }
+{
+    let mut both = Vec::new(alloc);
+    for network in networks {
+        if attaches_rule(config, network, rule) {
+            both.push(*network)?;
+        }
+    }
+    Ok(both)
 }
 
 /// Whether a rule speaks of packets between two networks, either way.
@@ -43,71 +68,70 @@ fn speaks_between(rule: &Rule, from: &Network, to: &Network) -> bool
     fits(rule, from, to) || fits(rule, to, from)
 }
 
-fn both_between(
-    config: &Config,
-    rule: &NumberedRule,
-    other: &NumberedRule,
-    from: &Network,
-    to: &Network,
-) -> bool
-    ensures { result ≡ idle.both_between config.now rule.now other.now from.now to.now }
+/// Whether both of two rules speak of packets between two networks.
+fn both_speak(rule: &NumberedRule, other: &NumberedRule, from: &Network, to: &Network) -> bool
+    ensures { result ≡ both_speak rule.now other.now from.now to.now }
 {
     from.name != to.name
-        && (attach_both(config, rule, other, to)
-            && (speaks_between(&rule.rule, from, to) && speaks_between(&other.rule, from, to)))
+        && (speaks_between(&rule.rule, from, to) && speaks_between(&other.rule, from, to))
 }
 
-fn both_to_some(
-    config: &Config,
+fn both_speak_to_some(
     rule: &NumberedRule,
     other: &NumberedRule,
     from: &Network,
-    networks: &[Network],
+    networks: &[&Network],
 ) -> bool
-    ensures { result ≡ list_any (idle.both_between config.now rule.now other.now from.now) networks.now }
+    ensures { result ≡ list_any (both_speak rule.now other.now from.now) (map (λ a. a.now) networks.now) }
 {
-    networks
-        .iter()
-        .any(|to| both_between(config, rule, other, from, to))
+    networks.iter().any(|to| both_speak(rule, other, from, to))
 }
 
-fn both_from(config: &Config, rule: &NumberedRule, other: &NumberedRule, from: &Network) -> bool
-    ensures { result ≡ idle.both_from config.now rule.now other.now from.now }
-{
-    attach_both(config, rule, other, from)
-        && both_to_some(config, rule, other, from, config.networks.as_slice())
-}
-
-fn both_from_some(
-    config: &Config,
+/// Whether both of two rules speak of packets between some two of networks.
+fn both_speak_between_some(
     rule: &NumberedRule,
     other: &NumberedRule,
-    networks: &[Network],
+    networks: &[&Network],
+    others: &[&Network],
 ) -> bool
-    ensures { result ≡ list_any (idle.both_from config.now rule.now other.now) networks.now }
+    ensures { result ≡ list_any (λ a. list_any (both_speak rule.now other.now a) (map (λ b. b.now) others.now))
+        (map (λ a. a.now) networks.now) }
 {
-    networks
-        .iter()
-        .any(|from| both_from(config, rule, other, from))
+    networks.iter().any(|from| both_speak_to_some(rule, other, from, others))
 }
 
-/// Whether a rule stands before another between some two networks.
-fn stands_before(config: &Config, other: &NumberedRule, rule: &NumberedRule) -> bool
-    ensures { result ≡ stands_before config.now other.now rule.now }
+/// Whether a rule stands before another between some two of the networks that attach the other's policy.
+fn stands_before(
+    alloc: Global,
+    config: &Config,
+    networks: &[&Network],
+    other: &NumberedRule,
+    rule: &NumberedRule,
+) -> Result<bool, NoMemory>
+    requires { map (λ a. a.now) networks.now
+        ≡ filter (λ a. attaches_rule config.now a other.now.number) config.now.networks }
+    ensures { IfOk result (λ b. b ≡ stands_before config.now other.now rule.now) }
 {
-    comes_before(rule.number, other.number)
-        && both_from_some(config, rule, other, config.networks.as_slice())
+    if !comes_before(rule.number, other.number) {
+        return Ok(false);
+    }
+    let both = also_attaching(alloc, config, networks, rule.number)?;
+    Ok(both_speak_between_some(rule, other, &both, &both))
 }
 
 fn push_before(
+    alloc: Global,
     before: &mut Vec<RuleNo>,
     config: &Config,
+    networks: &[&Network],
     other: &NumberedRule,
     rule: &NumberedRule,
 ) -> Result<(), NoMemory>
+    requires { map (λ a. a.now) networks.now
+        ≡ filter (λ a. attaches_rule config.now a other.now.number) config.now.networks }
     ensures { OnOk result (before.new.items ≡ before.old.items ++ before_of config.now other.now rule.now) }
 {
-    if stands_before(config, other, rule) {
+    if stands_before(alloc, config, networks, other, rule)? {
         before.push(rule.number)?;
     }
     Ok(())
@@ -122,9 +146,10 @@ pub(crate) fn rules_before(
 ) -> Result<Items<RuleNo>, NoMemory>
     ensures { IfOk result (λ list. list ≡ flat_map (before_of config.now other.now) rules.now) }
 {
+    let networks = attaching(alloc, config, other.number)?;
     let mut before = Vec::new(alloc);
     for rule in rules {
-        push_before(&mut before, config, other, rule)?;
+        push_before(alloc, &mut before, config, &networks, other, rule)?;
     }
     Ok(Items::from_vec(before))
 }

@@ -87,7 +87,7 @@ module _ (t : Tuple) (c : Claim) where
       ∙ (λ i. (taken_says t c r ∙ and_is (claimed c) (H r) (holds c.region t) h) i ++ takes h rs i)
       ∙ one_more (claimed c) (H r) (marks H (claimed c) rs)
 
-  leaves_none : {A : Type 0} (x : A) → holds c.region t ≡ true → (left : List Region) → marks H x (flat_map (left_by c.region) left) ≡ []
+  pub leaves_none : {A : Type 0} (x : A) → holds c.region t ≡ true → (left : List Region) → marks H x (flat_map (left_by c.region) left) ≡ []
   leaves_none x h [] = refl
   leaves_none x h (r ∷ rs) =
       marks_append H x (left_by c.region r) (flat_map (left_by c.region) rs)
@@ -100,7 +100,7 @@ module _ (t : Tuple) (c : Claim) where
       said_append t (taken_by c r) (flat_map (taken_by c) rs)
       ∙ (λ i. (taken_says t c r ∙ and_is_not (claimed c) (H r) (holds c.region t) h) i ++ takes_none h rs i)
 
-  leaves : {A : Type 0} (x : A) → holds c.region t ≡ false → (left : List Region) → marks H x (flat_map (left_by c.region) left) ≡ marks H x left
+  pub leaves : {A : Type 0} (x : A) → holds c.region t ≡ false → (left : List Region) → marks H x (flat_map (left_by c.region) left) ≡ marks H x left
   leaves x h [] = refl
   leaves x h (r ∷ rs) =
       marks_append H x (left_by c.region r) (flat_map (left_by c.region) rs)
@@ -122,7 +122,7 @@ marks_are {A} {B} p x (y ∷ ys) =
       | false ↦ marks_are p x ys
     ]
 
-says_joined : (t : Tuple) (x : Said) (left : List Region) (list : List DecidedRegion) → said t list ≡ marks (λ r. holds r t) x left
+pub says_joined : (t : Tuple) (x : Said) (left : List Region) (list : List DecidedRegion) → said t list ≡ marks (λ r. holds r t) x left
     → said t (joined list) ≡ marks (λ r. holds r t) x left
 says_joined t x left list h =
     joined_same t x list (subst (λ (ys : List Said). All (λ y. y ≡ x) ys) (sym h) (marks_are (λ (r : Region). holds r t) x left)) ∙ h
@@ -135,7 +135,7 @@ append_none : {A : Type 0} (xs ys : List A) → ys ≡ [] → xs ++ ys ≡ xs
 append_none [] ys h = h
 append_none {A} (x ∷ xs) ys h = ap (λ (rest : List A). x ∷ rest) (append_none xs ys h)
 
-carved : (t : Tuple) (cs : List Claim) (left : List Region) → said t (carve cs left) ≡ marks (λ r. holds r t) (or_nothing (first_of (claim_on t) cs)) left
+pub carved : (t : Tuple) (cs : List Claim) (left : List Region) → said t (carve cs left) ≡ marks (λ r. holds r t) (or_nothing (first_of (claim_on t) cs)) left
 carved t [] left = says_joined t nothing left (map undecided left) (said_undecided t left)
 carved t (c ∷ cs) left =
     let H : Region → Bool = λ r. holds r t in
@@ -262,7 +262,7 @@ claims_decide c a b t h =
 within : (n most : ℕ) → n ≤ most → (leb 0 n && leb n most) ≡ true
 within n most h = grind (arith, nat_tests)
 
-everything_holds : (t : Tuple) → IsTuple t → holds everything t ≡ true
+pub everything_holds : (t : Tuple) → IsTuple t → holds everything t ≡ true
 everything_holds t h = rw (within t.proto 255 h.proto, within t.sport 65535 h.sport, within t.dport 65535 h.dport) refl
 
 pub one_says : (c : Config) (a b : Network) (t : Tuple) → IsTuple t → said t (carved_between c a b) ≡ or_nothing (option_map said_by (deciding c a b t)) ∷ []

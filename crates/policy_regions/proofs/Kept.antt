@@ -44,6 +44,22 @@ few_at ps i p all lt at =
     let here : IsFew (get_or (map (λ q. q.now) ps) i p.now) = all i p.now (simp length-map lt) in
     subst IsFew (get_or-map (λ (q : Bor Policy). q.now) ps i p p.now lt ∙ ap (λ (q : Bor Policy). q.now) (sym at)) here
 
+-- of the policies that one network attaches, those that another attaches
+
+pub filter_both : {A : Type 0} (f g : A → Bool) (xs : List A) → filter g (filter f xs) ≡ filter (λ x. f x && g x) xs
+filter_both f g [] = refl
+filter_both {A} f g (x ∷ xs) =
+    let rest = filter_both f g xs in
+    elim (f x) as (λ b. filter g (cond b (x ∷ filter f xs) (filter f xs)) ≡ cond (b && g x) (x ∷ filter (λ y. f y && g y) xs) (filter (λ y. f y && g y) xs)) [
+      | true ↦ ap (λ (ys : List A). cond (g x) (x ∷ ys) ys) rest
+      | false ↦ rest
+    ]
+
+pub shared : (c : Config) (a b : Network) (ps qs : List Policy) → ps ≡ filter (attaches a) c.policies → qs ≡ by_sequence (filter (attaches b) ps)
+    → qs ≡ by_sequence (filter (λ p. attaches a p && attaches b p) c.policies)
+shared c a b ps qs e f =
+    f ∙ ap (λ (rs : List Policy). by_sequence (filter (attaches b) rs)) e ∙ ap by_sequence (filter_both (attaches a) (attaches b) c.policies)
+
 -- rules that speak of no packets between the two networks claim nothing
 
 flat_kept : {A B : Type 0} (f : A → List B) (keep : A → Bool) → ((x : A) → keep x ≡ false → f x ≡ []) → (xs : List A) → flat_map f (filter keep xs) ≡ flat_map f xs

@@ -12,3 +12,4 @@ pub mod Overlaid
 pub mod Sorting
 pub mod Turns
 pub mod Alike
+pub mod Left

@@ -26,6 +26,11 @@ abbrev pub carve : List Claim → List Region → List DecidedRegion
 carve [] left = joined (map undecided left)
 carve (c ∷ cs) left = joined (flat_map (taken_by c) left) ++ carve cs (flat_map (left_by c.region) left)
 
+-- what claims leave of what is left, one after the other
+abbrev pub left_after : List Claim → List Region → List Region
+left_after [] left = left
+left_after (c ∷ cs) left = left_after cs (flat_map (left_by c.region) left)
+
 -- what the claims between two networks make of the region of all tuples
 abbrev pub carved_between : Config → Network → Network → List DecidedRegion
 carved_between c from to = carve (claims_between c from to) (everything ∷ [])

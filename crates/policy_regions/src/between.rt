@@ -10,9 +10,8 @@ ghost use Rattle.policy_regions.specs.Parts.{IsTuple, LiesInOne, AllSay, AllDo};
 ghost use Rattle.policy_regions.specs.Touching.{IsJoined};
 
 use crate::carving::carve;
-use crate::claims::claims_of;
 use crate::joining::joined;
-use crate::policies::shared_policies;
+use crate::origin::Origin;
 use crate::region::{Claim, DecidedRegion};
 use config_types::{Config, Network};
 use ov_types::{Items, NoMemory};
@@ -28,8 +27,8 @@ pub fn claims_between(
     requires { IsTrue (list_all (λ p. nat_le (length p.rules) 16) config.now.policies) }
     ensures { IfOk result (λ v. v.items ≡ claims_between config.now from.now to.now) }
 {
-    let policies = shared_policies(alloc, config, from, to)?;
-    claims_of(alloc, from, to, &policies)
+    let origin = Origin::new(alloc, config, from)?;
+    origin.claims_to(alloc, to)
 }
 
 /// What the rules between two networks make of all tuples.

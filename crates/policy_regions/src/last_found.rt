@@ -102,7 +102,7 @@ impl LastFound {
     }
 
     /// Finds the regions that claims make. Where they are the same as those before, the regions are there already.
-    fn find_by(&mut self, alloc: Global, claims: Vec<Claim>) -> Result<(), NoMemory>
+    pub fn find_by(&mut self, alloc: Global, claims: Vec<Claim>) -> Result<(), NoMemory>
         ensures regions { OnOk result (self.new ≡ joined (carve claims.items (everything ∷ []))) }
         ensures kept { OnErr result (self.new ≡ self.old) }
     {

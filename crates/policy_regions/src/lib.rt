@@ -9,12 +9,15 @@ mod joining;
 mod last_found;
 mod last_laid;
 pub mod laws;
+mod origin;
 mod overlays;
 mod policies;
 mod region;
 
 pub use between::{claims_between, regions_between};
+pub use carving::left_after;
 pub use last_found::{LastFound, are_same};
 pub use last_laid::LastLaid;
+pub use origin::Origin;
 pub use overlays::{Compared, overlay};
 pub use region::{Claim, DecidedRegion, Effect, Region};

@@ -1,5 +1,5 @@
-//! The policies that two networks share.
-ghost use Rattle.std.specs.Prelude.{◌≡◌, ◌&&◌, filter, map, IfOk};
+//! The policies that networks attach.
+ghost use Rattle.std.specs.Prelude.{◌≡◌, filter, map, IfOk};
 ghost use Rattle.policy_rules.specs.Related.{attaches, by_sequence};
 
 use config_types::{Config, Network, Policy};
@@ -7,29 +7,39 @@ use ov_types::NoMemory;
 use policy_rules::attaches;
 use std::alloc::Global;
 
-fn both_attach(from: &Network, to: &Network, policy: &Policy) -> bool
-    ensures { result ≡ (attaches from.now policy.now && attaches to.now policy.now) }
-{
-    attaches(from, policy) && attaches(to, policy)
-}
-
-/// The policies that both networks attach, in the document's order.
-fn attached_policies<'a>(
+/// The policies that a network attaches, in the document's order.
+pub(crate) fn attached_policies<'a>(
     alloc: Global,
     config: &'a Config,
-    from: &Network,
-    to: &Network,
+    network: &Network,
 ) -> Result<Vec<&'a Policy>, NoMemory>
-    ensures { IfOk result (λ v. map (λ p. p.now) v.items
-        ≡ filter (λ p. attaches from.now p && attaches to.now p) config.now.policies) }
+    ensures { IfOk result (λ v. map (λ p. p.now) v.items ≡ filter (attaches network.now) config.now.policies) }
 {
-    let mut policies = Vec::new(alloc);
+    let mut attached = Vec::new(alloc);
     for policy in config.policies.as_slice() {
-        if both_attach(from, to, policy) {
-            policies.push(policy)?;
+        if attaches(network, policy) {
+            attached.push(policy)?;
         }
     }
-    Ok(policies)
+    Ok(attached)
+}
+
+/// Of policies those that a network attaches, in their order.
+fn attached_of<'a>(
+    alloc: Global,
+    policies: &[&'a Policy],
+    network: &Network,
+) -> Result<Vec<&'a Policy>, NoMemory>
+    ensures { IfOk result (λ v. map (λ p. p.now) v.items
+        ≡ filter (attaches network.now) (map (λ p. p.now) policies.now)) }
+{
+    let mut attached = Vec::new(alloc);
+    for policy in policies {
+        if attaches(network, policy) {
+            attached.push(*policy)?;
+        }
+    }
+    Ok(attached)
 }
 
 /// Policies by sequence, those of one sequence in their order.
@@ -40,15 +50,14 @@ fn by_sequence<'a>(mut policies: Vec<&'a Policy>) -> Result<Vec<&'a Policy>, NoM
     Ok(policies)
 }
 
-/// The policies that both networks attach, by sequence.
+/// Of policies those that a network attaches, by sequence.
 pub(crate) fn shared_policies<'a>(
     alloc: Global,
-    config: &'a Config,
-    from: &Network,
-    to: &Network,
+    policies: &[&'a Policy],
+    network: &Network,
 ) -> Result<Vec<&'a Policy>, NoMemory>
     ensures { IfOk result (λ v. map (λ p. p.now) v.items
-        ≡ by_sequence (filter (λ p. attaches from.now p && attaches to.now p) config.now.policies)) }
+        ≡ by_sequence (filter (attaches network.now) (map (λ p. p.now) policies.now))) }
 {
-    by_sequence(attached_policies(alloc, config, from, to)?)
+    by_sequence(attached_of(alloc, policies, network)?)
 }

@@ -6,7 +6,6 @@ use Rattle.inspect_answers.specs.declared.asked.Asked.{Asked}
 use Rattle.inspect_answers.proofs.Taken.{expected_kept}
 use Rattle.inspect_answers.proofs.Told.{ways_kept}
 use Rattle.inspect_answers.proofs.TookIdle.{unused_kept}
-use Rattle.inspect_answers.proofs.TookReasons.{explained_kept}
 use Rattle.inspect_answers.proofs.answering.answer.Goals as goal
 
 pub returns-in-Ways-clause-promise : goal.returns-in-Ways-clause-promise
@@ -29,10 +28,3 @@ returns-in-Unused-clause-promise g c =
     → Keeps asked (status_of verdict) c.args.octets.now (g.K.Sink.taken c.args.sink.now) (g.K.Sink.taken c.answer_unused.new.sink))) (sym c.in-Unused.is)
     (unused_kept c.answer_unused.result c.in-Unused.form c.args.octets.now (g.K.Sink.taken c.args.sink.now) (g.K.Sink.taken c.answer_unused.new.sink)
     c.answer_unused.ensures.given c.answer_unused.ensures.in_form)
-
-pub returns-in-Why-clause-promise : goal.returns-in-Why-clause-promise
-returns-in-Why-clause-promise g c =
-    subst (λ (asked : Asked). IfOk c.answer_why.result (λ verdict. IsAnswer verdict
-    → Keeps asked (status_of verdict) c.args.octets.now (g.K.Sink.taken c.args.sink.now) (g.K.Sink.taken c.answer_why.new.sink))) (sym c.in-Why.is)
-    (explained_kept c.answer_why.result c.in-Why.form c.args.octets.now (g.K.Sink.taken c.args.sink.now) (g.K.Sink.taken c.answer_why.new.sink)
-    c.answer_why.ensures.given c.answer_why.ensures.in_form)

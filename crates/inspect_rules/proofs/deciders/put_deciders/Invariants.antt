@@ -1,10 +1,9 @@
-use Rattle.std.proofs.Common.{◌≡◌, ◌||◌, drop}
-use Rattle.std.specs.List.{list_any}
+use Rattle.std.proofs.Common.{◌≡◌, ◌||◌, [], take, drop}
 use Rattle.ov_types.specs.declared.packet.RuleNo.{RuleNo}
-use Rattle.inspect_rules.specs.Deciders.{has_rule, is_decided_by}
+use Rattle.inspect_rules.specs.Deciders.{claims_decide, has_rule}
 use Rattle.inspect_rules.proofs.deciders.put_deciders.Given as goal
 
-abbrev pub invariant-loop-region : goal.invariant-loop-region
-invariant-loop-region l =
-    (n : RuleNo) → (list_any (is_decided_by n) (drop l.region-index l.regions) || has_rule l.deciders n)
-    ≡ (list_any (is_decided_by n) l.regions || has_rule l.fn.deciders n)
+abbrev pub invariant-loop-index : goal.invariant-loop-index
+invariant-loop-index l =
+    (n : RuleNo) → (claims_decide n (take l.index l.claims) (drop l.index l.claims) || has_rule l.deciders n)
+    ≡ (claims_decide n [] l.claims || has_rule l.fn.deciders n)

@@ -1,0 +1,12 @@
+use Rattle.std.proofs.Common.{◌≡◌, List, flat_map, sym, ap, ◌∙◌}
+use Rattle.inspect_changes.specs.Unchanged.{Stands, differences_unless, standing}
+use Rattle.inspect_changes.proofs.KeptPairs.{all_standing}
+use Rattle.inspect_changes.proofs.differences.all_differences.Goals as goal
+
+pub returns : goal.returns
+returns c =
+    let before = c.args.before.now.config in
+    let after = c.args.after.now.config in
+    c.in_ok-push_all.ensures
+    ∙ ap (λ (networks : List Stands). flat_map (λ s. flat_map (differences_unless before after s) networks) networks) (c.deref.ensures.value ∙ c.in_ok-networks.ensures)
+    ∙ all_standing before after

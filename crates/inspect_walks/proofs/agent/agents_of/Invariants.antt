@@ -1,0 +1,7 @@
+use Rattle.std.proofs.Common.{◌≡◌, ◌++◌, drop, map}
+use Rattle.transform_forwarding_laws.proofs.Agents.{agents_of, forwarder}
+use Rattle.inspect_walks.proofs.agent.agents_of.Given as goal
+
+abbrev pub invariant-loop-place : goal.invariant-loop-place
+invariant-loop-place l =
+    l.agents.items ++ map (forwarder l.valid.topology l.valid.config) (drop l.place l.nodes) ≡ agents_of l.valid.topology l.valid.config

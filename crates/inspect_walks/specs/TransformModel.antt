@@ -1,0 +1,2 @@
+-- What is passed on of `transform_model`, so that the crates above need not list it.
+pub use Rattle.transform_model.specs.Compiled
