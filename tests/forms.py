@@ -193,7 +193,10 @@ def words_for(path):
         return ["decode"]
     if path.suffix != ".json":
         return []
-    members = set(json.loads(path.read_text(encoding="utf-8")))
+    value = json.loads(path.read_text(encoding="utf-8"))
+    members = set(value) if isinstance(value, dict) else set()
+    if "edits" in members:  # (`inspect hitless` takes it)
+        return []
     for member, word in (("capacity", "flows"), ("groups", "scale"), ("packets", "reach")):
         if member in members:
             return [word]

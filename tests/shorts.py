@@ -143,7 +143,9 @@ def example():
 def documents():
     """The documents of the repository that are answered."""
     for path in sorted((TOP / "examples").glob("*.json")):
-        yield path.name, json.loads(path.read_text(encoding="utf-8"))
+        document = json.loads(path.read_text(encoding="utf-8"))
+        if isinstance(document, dict) and "edits" not in document:  # (those are of `overlay`)
+            yield path.name, document
     for path in sorted((TOP / "tests").glob("*.jsonl")):
         for line in path.read_text(encoding="utf-8").splitlines():
             case = json.loads(line)

@@ -189,17 +189,22 @@ kind_member phrase member =
     || is member (codes "service") || is member (codes "chain") || is member (codes "node") then phrase
     else no_phrase
 
--- of what the lists of the commands have: packets, groups, events, steps and edits, and the edits in events
+-- of edits, each by itself or in an event, and of what they put and delete
+unfoldable pub edited_member : List ℕ → List ℕ → List ℕ
+edited_member parent member =
+    if is parent (codes "edit") || is parent (codes "edits") then edit_member member
+    else (if is parent (codes "put") then kind_member object member
+    else (if is parent (codes "delete") then kind_member name member
+    else no_phrase))
+
+-- of what the lists of the commands have: packets, groups, events, steps and edits
 unfoldable pub listed_member : List ℕ → List ℕ → List ℕ
 listed_member parent member =
     if is parent (codes "packets") || is parent (codes "trace") then packet_member member
     else (if is parent (codes "expect") then expect_member member
     else (if is parent (codes "groups") then group_member member
     else (if is parent (codes "events") || is parent (codes "steps") then event_member member
-    else (if is parent (codes "edit") || is parent (codes "edits") then edit_member member
-    else (if is parent (codes "put") then kind_member object member
-    else (if is parent (codes "delete") then kind_member name member
-    else no_phrase))))))
+    else edited_member parent member)))
 
 -- what is wanted of a member behind another: an object is in a list, or stands alone in an edit
 unfoldable pub member_wanted : List ℕ → List ℕ → List ℕ

@@ -4,7 +4,8 @@ ghost use Rattle.explanations.specs.Wanted.{before_point, behind_point, is_item,
 ghost use Rattle.explanations.specs.Wanted.{item_wanted, member_wanted, wanted_at};
 ghost use Rattle.explanations.specs.Wanted.{controllers_item, is_third, item_of_three, policies_item, services_item};
 ghost use Rattle.explanations.specs.Wanted.{chain_member, configuration_member, controller_member, document_member};
-ghost use Rattle.explanations.specs.Wanted.{edit_member, event_member, expect_member, group_member, kind_member, listed_member};
+ghost use Rattle.explanations.specs.Wanted.{edit_member, edited_member, event_member, expect_member, group_member, kind_member};
+ghost use Rattle.explanations.specs.Wanted.{listed_member};
 ghost use Rattle.explanations.specs.Wanted.{network_member, node_member, packet_member, policy_member, port_member};
 ghost use Rattle.explanations.specs.Wanted.{rule_member, service_member, topology_member};
 
@@ -93,7 +94,7 @@ fn member_wanted(parent: &str, member: &str) -> &'static str
     }
 }
 
-/// Of what the lists of the commands have, and of the edits in them.
+/// Of what the lists of the commands have.
 #[tactic(auto, unfolding(crate::specs::Wanted::listed_member))]
 fn listed_member(parent: &str, member: &str) -> &'static str
     ensures { result.now ≡ listed_member parent.now member.now }
@@ -103,6 +104,16 @@ fn listed_member(parent: &str, member: &str) -> &'static str
         "expect" => expect_member(member),
         "groups" => group_member(member),
         "events" | "steps" => event_member(member),
+        _ => edited_member(parent, member),
+    }
+}
+
+/// Of edits, and of what they put and delete.
+#[tactic(auto, unfolding(crate::specs::Wanted::edited_member))]
+fn edited_member(parent: &str, member: &str) -> &'static str
+    ensures { result.now ≡ edited_member parent.now member.now }
+{
+    match parent {
         "edit" | "edits" => edit_member(member),
         "put" => kind_member(OBJECT, member),
         "delete" => kind_member(NAME, member),

@@ -8,3 +8,4 @@ pub mod Unchanged
 pub mod Alike
 pub mod Leading
 pub mod KeptPairs
+pub mod Zipped

@@ -1,5 +1,5 @@
 -- Where claims stay and their packets fare alike, there is no difference.
-use Rattle.std.proofs.Common.{◌≡◌, ◌&&◌, ◌||◌, ℕ, Bool, true, false, cond, List, [], ◌∷◌, ◌++◌, Some, flat_map, refl, sym, ap, ◌∙◌, subst, arith}
+use Rattle.std.proofs.Common.{◌≡◌, ◌||◌, ℕ, Bool, true, false, List, [], ◌∷◌, ◌++◌, Some, flat_map, refl, ◌∙◌, subst, arith}
 use Rattle.std.specs.List.{All, list_all}
 use Rattle.ov_types.proofs.FirstLemmas.{all_head, all_tail}
 use Rattle.std.proofs.lemmas.List.Elements.{All-cons}

@@ -287,16 +287,7 @@ fn push_to(
     if from.is_kept && to.is_kept() {
         return Ok(());
     }
-    push_between(
-        alloc,
-        differences,
-        last,
-        before,
-        after,
-        alike,
-        from,
-        to,
-    )
+    push_between(alloc, differences, last, before, after, alike, from, to)
 }
 
 /// Appends the differences from one network to each of others.
@@ -315,16 +306,7 @@ fn push_to_each(
         ++ flat_map (differences_towards before.now.config after.now.config from.now.is_kept from.now.before from.now.after) others.now) }
 {
     for to in others {
-        push_to(
-            alloc,
-            differences,
-            last,
-            before,
-            after,
-            alike,
-            from,
-            to,
-        )?;
+        push_to(alloc, differences, last, before, after, alike, from, to)?;
     }
     Ok(())
 }
@@ -404,13 +386,6 @@ pub fn all_differences(
     let alike = lead_alike(before.config(), after.config());
     let networks = standing_networks(alloc, before, after, alike)?;
     let mut differences = Vec::new(alloc);
-    push_all(
-        alloc,
-        &mut differences,
-        before,
-        after,
-        alike,
-        &networks,
-    )?;
+    push_all(alloc, &mut differences, before, after, alike, &networks)?;
     Ok(differences)
 }

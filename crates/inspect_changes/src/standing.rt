@@ -2,6 +2,7 @@
 ghost use Rattle.std.specs.Prelude.{◌≡◌, ◌==◌, ◌&&◌, ◌++◌, length, map, nat_eq, nat_le, option_copied, IfOk, IsTrue, OnOk};
 ghost use Rattle.std.specs.Cmp.Lexicographic.{pointwise};
 ghost use Rattle.std.specs.List.{list_all, zip};
+ghost use Rattle.config_types.specs.contracts.config.PolicyPartialEq.TheImpl as policy_equality;
 ghost use Rattle.config_check.specs.Finding.{network_named};
 ghost use Rattle.inspect_changes.specs.Unchanged.{attaches_alike, is_kept, lead_alike, same_policies, standing, standing_as};
 
@@ -19,14 +20,19 @@ pub(crate) fn lead_alike(before: &Config, after: &Config) -> bool
     before.chains == after.chains && before.services == after.services
 }
 
+fn are_alike(policies: &[&Policy], others: &[&Policy]) -> bool
+    ensures { result ≡ list_all (λ p. policy_equality.ghosts.eq p.0.now p.1.now) (zip policies.now others.now) }
+{
+    policies
+        .iter()
+        .zip(others)
+        .all(|(policy, other)| **policy == **other)
+}
+
 fn are_same_policies(policies: &[&Policy], others: &[&Policy]) -> bool
     ensures { result ≡ same_policies (map (λ p. p.now) policies.now) (map (λ p. p.now) others.now) }
 {
-    policies.len() == others.len()
-        && policies
-            .iter()
-            .zip(others)
-            .all(|(policy, other)| **policy == **other)
+    policies.len() == others.len() && are_alike(policies, others)
 }
 
 /// Whether a network attaches the same policies in two configurations, by their names and by what these say.

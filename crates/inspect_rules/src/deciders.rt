@@ -125,12 +125,7 @@ fn put_deciders_from(
         ≡ (decides_from valid.now.config n from.now || has_rule deciders.old n)) }
 {
     let origin = Origin::new(alloc, valid.config(), from)?;
-    put_deciders_to(
-        alloc,
-        deciders,
-        &origin,
-        valid.config().networks.as_slice(),
-    )
+    put_deciders_to(alloc, deciders, &origin, valid.config().networks.as_slice())
 }
 
 /// The rules that decide on packets between two networks of a valid configuration.

@@ -84,7 +84,12 @@ fn both_speak_to_some(
 ) -> bool
     ensures { result ≡ list_any (both_speak rule.now other.now from.now) (map (λ a. a.now) networks.now) }
 {
-    networks.iter().any(|to| both_speak(rule, other, from, to))
+    for to in networks {
+        if both_speak(rule, other, from, to) {
+            return true;
+        }
+    }
+    false
 }
 
 /// Whether both of two rules speak of packets between some two of networks.
@@ -97,7 +102,12 @@ fn both_speak_between_some(
     ensures { result ≡ list_any (λ a. list_any (both_speak rule.now other.now a) (map (λ b. b.now) others.now))
         (map (λ a. a.now) networks.now) }
 {
-    networks.iter().any(|from| both_speak_to_some(rule, other, from, others))
+    for from in networks {
+        if both_speak_to_some(rule, other, from, others) {
+            return true;
+        }
+    }
+    false
 }
 
 /// Whether a rule stands before another between some two of the networks that attach the other's policy.

@@ -8,4 +8,3 @@ mod Steps
 pub mod Law
 mod Gathered
 mod Found
-mod Telling

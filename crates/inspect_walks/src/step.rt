@@ -1,6 +1,8 @@
 //! What is told of a lookup.
-ghost use Rattle.std.specs.Prelude.{◌≡◌, ◌==◌, find, option_copied, option_map};
+ghost use Rattle.std.specs.Prelude.{◌≡◌, ◌==◌, ◌++◌, ◌∷◌, [], find, option_copied, option_map, IsTrue, OnOk};
+ghost use Rattle.std.specs.List.{cons_option, list_all};
 ghost use Rattle.packet_trace.specs.Lookups.{leading_at, leading_by};
+ghost use Rattle.inspect_walks.specs.Sizes.{has_step_size};
 ghost use Rattle.inspect_walks.specs.Taking.{told_at};
 ghost use Rattle.inspect_walks.specs.Walks.{step_of};
 ghost use Rattle.inspect_walks.specs.Told.{told, leads_to, node_name, owner_of, port_name, service_name};
@@ -9,7 +11,7 @@ use crate::agent::{TableAgent, agent_at};
 use crate::told_step::{LeadsTo, Owner, ToldStep};
 use config_check::{Valid, network_numbered, port_numbered};
 use config_types::{Config, Node, Service, Topology};
-use ov_types::{Addr, Attached, Entry, InstanceId, Name, PortNo, Prefix, ServiceNo};
+use ov_types::{Addr, Attached, Entry, InstanceId, Name, NoMemory, PortNo, Prefix, ServiceNo};
 use packet_trace::{Hop, Vrouter};
 use route_targets::hop_of;
 
@@ -109,40 +111,65 @@ fn leads_by<'a>(config: &Config, agents: &[TableAgent<'a>], entry: Option<Entry>
     }
 }
 
-/// What is told of a lookup at an agent.
-fn told_of<'a>(
+/// Adds a step of these parts.
+fn push_step(
+    steps: &mut Vec<ToldStep>,
+    agent: Option<Name>,
+    instance: InstanceId,
+    owner: Owner,
+    row: Option<(Prefix, Entry)>,
+    leads: LeadsTo,
+) -> Result<(), NoMemory>
+    ensures grown { OnOk result (steps.new.items ≡ steps.old.items
+        ++ (record { agent = agent; instance = instance; owner = owner; row = row; leads = leads }) ∷ []) }
+    ensures sized { IsTrue (has_step_size
+        (record { agent = agent; instance = instance; owner = owner; row = row; leads = leads })) }
+{
+    steps.push(ToldStep {
+        agent,
+        instance,
+        owner,
+        row,
+        leads,
+    })?;
+    Ok(())
+}
+
+/// Adds what is told of a lookup at an agent.
+fn push_told_of<'a>(
+    steps: &mut Vec<ToldStep>,
     valid: &Valid,
     agents: &[TableAgent<'a>],
     address: Addr,
     agent: &TableAgent<'a>,
     instance: InstanceId,
-) -> ToldStep
-    ensures { result ≡ told valid.now (step_of agents.now address.0 (record { agent = agent.now; instance = instance })) }
+) -> Result<(), NoMemory>
+    ensures grown { OnOk result (steps.new.items ≡ steps.old.items
+        ++ told valid.now (step_of agents.now address.0 (record { agent = agent.now; instance = instance })) ∷ []) }
+    ensures sized { IsTrue (has_step_size
+        (told valid.now (step_of agents.now address.0 (record { agent = agent.now; instance = instance })))) }
 {
     let name = node_name(valid.topology(), agent.address());
     let owner = owner_of(valid.config(), instance);
     let row = agent.row(instance, address);
     let leads = leads_by(valid.config(), agents, entry_of(&row));
-    ToldStep {
-        agent: name,
-        instance,
-        owner,
-        row,
-        leads,
-    }
+    push_step(steps, name, instance, owner, row, leads)
 }
 
-/// What is told of a lookup, where its agent is there.
-pub(crate) fn told_at<'a>(
+/// Adds what is told of a lookup, where its agent is there.
+pub(crate) fn push_told<'a>(
+    steps: &mut Vec<ToldStep>,
     valid: &Valid,
     agents: &[TableAgent<'a>],
     address: Addr,
     hop: &Hop,
-) -> Option<ToldStep>
-    ensures { result ≡ told_at valid.now agents.now address.0 hop.now }
+) -> Result<(), NoMemory>
+    ensures grown { OnOk result (steps.new.items ≡ steps.old.items
+        ++ cons_option (told_at valid.now agents.now address.0 hop.now) []) }
+    ensures sized { IsTrue (list_all has_step_size (cons_option (told_at valid.now agents.now address.0 hop.now) [])) }
 {
     match agent_at(agents, hop.node) {
-        Some(agent) => Some(told_of(valid, agents, address, agent, hop.instance)),
-        None => None,
+        Some(agent) => push_told_of(steps, valid, agents, address, agent, hop.instance),
+        None => Ok(()),
     }
 }

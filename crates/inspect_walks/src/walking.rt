@@ -1,30 +1,18 @@
 //! The walk of a packet.
-ghost use Rattle.std.specs.Prelude.{◌≡◌, ◌++◌, [], IfOk, IsTrue, OnOk};
-ghost use Rattle.std.specs.List.{cons_option, list_all};
+ghost use Rattle.std.specs.Prelude.{◌≡◌, IfOk, IsTrue};
+ghost use Rattle.std.specs.List.{list_all};
 ghost use Rattle.inspect_walks.specs.Sizes.{has_step_size};
 ghost use Rattle.inspect_walks.specs.Taking.{told_steps};
 ghost use Rattle.inspect_walks.specs.Told.{told_walk};
 ghost use Rattle.inspect_walks.specs.Walks.{compiled_agents};
 
 use crate::agent::TableAgent;
-use crate::step::told_at;
+use crate::step::push_told;
 use crate::told_step::ToldStep;
 use config_check::{Valid, port_numbered};
 use ov_types::{Addr, Items, NoMemory, Packet};
 use packet_trace::{Hop, trace};
 use std::alloc::Global;
-
-/// Adds what is told of a lookup, where something is.
-fn push_told(steps: &mut Vec<ToldStep>, told: Option<ToldStep>) -> Result<(), NoMemory>
-    ensures grown { OnOk result (steps.new.items ≡ steps.old.items ++ cons_option told []) }
-    ensures sized { IsTrue (list_all has_step_size (cons_option told [])) }
-{
-    let Some(step) = told else {
-        return Ok(());
-    };
-    steps.push(step)?;
-    Ok(())
-}
 
 /// What is told of lookups, in order.
 fn told_steps<'a>(
@@ -39,7 +27,7 @@ fn told_steps<'a>(
 {
     let mut steps = Vec::new(alloc);
     for hop in hops {
-        push_told(&mut steps, told_at(valid, agents, address, hop))?;
+        push_told(&mut steps, valid, agents, address, hop)?;
     }
     Ok(steps)
 }

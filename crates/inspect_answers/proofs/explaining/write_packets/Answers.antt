@@ -1,4 +1,5 @@
-use Rattle.std.proofs.Common.{◌+◌, drop, refl, ◌∙◌, arith}
+use Rattle.std.proofs.Common.{◌+◌, drop, ◌∙◌, arith}
+use Rattle.std.proofs.lemmas.Bool.{and_from}
 use Rattle.std.proofs.lemmas.Grind.{common_steps}
 use Rattle.std.proofs.lemmas.List.Folds.{list_all_more}
 use Rattle.ov_io.proofs.PieceLemmas.{on_err, way_breaks, way_goes_on}
@@ -17,5 +18,5 @@ loop-index-preserved g c = record {
   kept = c.in_ok-write_packet.ensures.cause ∙ c.loop-index.invariant.kept;
   agents = c.in_ok-write_packet.ensures.kept ∙ c.loop-index.invariant.agents;
   sized = list_all_more (has_walk_size c.args.valid.now) c.args.packets.now c.loop-index.index _ c.loop-index-test.true
-      ∙ rw (c.loop-index.invariant.sized, c.in_ok-write_packet.ensures.sized) refl;
+      ∙ and_from _ _ c.loop-index.invariant.sized c.in_ok-write_packet.ensures.sized;
 }

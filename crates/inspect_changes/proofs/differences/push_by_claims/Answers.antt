@@ -1,6 +1,6 @@
 use Rattle.std.proofs.Common.{◌≡◌, true, List, ◌++◌, sym, ap, ◌∙◌}
 use Rattle.std.proofs.lemmas.List.{append-nil}
-use Rattle.inspect_changes.specs.Unchanged.{differences_by, stay}
+use Rattle.inspect_changes.specs.Unchanged.{stay}
 use Rattle.inspect_changes.specs.declared.fate.Difference.{Difference}
 use Rattle.inspect_changes.proofs.Unchanged.{nothing_new}
 use Rattle.inspect_changes.proofs.differences.push_by_claims.Goals as goal
