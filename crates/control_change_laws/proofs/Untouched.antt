@@ -10,19 +10,19 @@ use Rattle.ov_types.specs.declared.numbers.Label.{Label as LabelNo}
 use Rattle.ov_types.specs.declared.prefix.Addr.{Addr}
 use Rattle.ov_types.specs.declared.targets.Target.{Target}
 use Rattle.route_targets.specs.Numbers.{target_of, circuit_instance_of, left_circuit_of, right_circuit_of}
-use Rattle.vpn_tables.specs.NodeModel.Members.{Member}
-use Rattle.vpn_tables.specs.NodeModel.Maps.{Map}
-use Rattle.vpn_tables.specs.NodeModel.Uses.{hop, imports}
-use Rattle.vpn_tables.specs.NodeModel.Paths.{Holdings, Told, Path, has_target, own_paths, peer_paths, received}
-use Rattle.vpn_tables.specs.NodeModel.Reaching.{Side, sides, subnets, hop_at, circuit_at, below, publisher, has_path_within, towards, is_up, into, reoriginated_paths, AreShort}
-use Rattle.vpn_tables.proofs.NodeModel.Members.{any_in, from_any, in_map}
-use Rattle.vpn_tables.proofs.NodeModel.Objects.{imports_hop, side_use}
-use Rattle.vpn_tables.proofs.NodeModel.Routes.{from_below}
-use Rattle.vpn_tables.proofs.NodeModel.Unknown.{le_trans, place_at, place_at-within}
-use Rattle.vpn_tables.specs.Listing.{hops}
-use Rattle.vpn_tables.specs.Touched.{imports_one, is_touched}
+use Rattle.vpn_holdings.specs.NodeModel.Members.{Member}
+use Rattle.vpn_holdings.specs.NodeModel.Maps.{Map}
+use Rattle.vpn_holdings.specs.NodeModel.Uses.{hop, imports}
+use Rattle.vpn_holdings.specs.NodeModel.Paths.{Holdings, Told, Path, has_target, own_paths, peer_paths, received}
+use Rattle.vpn_holdings.specs.NodeModel.Reaching.{Side, sides, subnets, hop_at, circuit_at, below, publisher, has_path_within, towards, is_up, into, reoriginated_paths, AreShort}
+use Rattle.vpn_holdings.proofs.NodeModel.Members.{any_in, from_any, in_map}
+use Rattle.vpn_holdings.proofs.NodeModel.Objects.{imports_hop, side_use}
+use Rattle.vpn_holdings.proofs.NodeModel.Routes.{from_below}
+use Rattle.vpn_holdings.proofs.NodeModel.Unknown.{le_trans, place_at, place_at-within}
+use Rattle.vpn_holdings.specs.Listing.{hops}
+use Rattle.vpn_holdings.specs.Touched.{imports_one, is_touched}
 use Rattle.control_change_laws.proofs.Moves.{Covers, Moves, told_otherwise}
-use Rattle.vpn_tables.specs.Leading.{leads}
+use Rattle.vpn_holdings.specs.Leading.{leads}
 use Rattle.control_change_laws.proofs.Known.{in_places}
 use Rattle.control_change_laws.proofs.Filtering.{all_from, false_from, filter_append, filter_flat_map, filter_none, flat_map_same}
 

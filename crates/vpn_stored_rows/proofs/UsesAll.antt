@@ -5,7 +5,7 @@ use Rattle.std.proofs.Common.{sym, ◌∙◌, ap}
 use Rattle.node_model.specs.Paths.{Path}
 use Rattle.node_model.specs.Reaching.{below}
 use Rattle.vpn_tables.specs.Routes.{path_of}
-use Rattle.vpn_tables.specs.declared.routes.Route.{Route}
+use Rattle.vpn_holdings.specs.declared.routes.Route.{Route}
 use Rattle.vpn_stored_rows.specs.Reached.{Reached, stored_at}
 use Rattle.vpn_stored_rows.specs.declared.uses.StoredUse.{StoredUse}
 use Rattle.vpn_stored_rows.proofs.Below.{one_further}

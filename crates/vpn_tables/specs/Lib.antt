@@ -1,21 +1,16 @@
--- The files of definitions, in the order in which they stand on each other.
-pub mod Ranges
-pub mod Ports
-pub mod Kinds
-pub mod Codes
-pub mod Views
-pub mod Changes
-pub mod Seats
-pub mod Answers
-pub mod Routes
-pub mod Least
-pub mod Leading
-pub mod Listing
-pub mod At
-pub mod Moved
-pub mod Touched
-pub mod TouchedKeys
-pub mod Indexed
-pub mod Gathered
-pub mod NodeModel
-pub mod ControlSilentAgentLaws
+-- What is passed on of `vpn_holdings`, so that the crates above need not list it.
+pub use Rattle.vpn_holdings.specs.Answers
+pub use Rattle.vpn_holdings.specs.At
+pub use Rattle.vpn_holdings.specs.Changes
+pub use Rattle.vpn_holdings.specs.Gathered
+pub use Rattle.vpn_holdings.specs.Indexed
+pub use Rattle.vpn_holdings.specs.Leading
+pub use Rattle.vpn_holdings.specs.Listing
+pub use Rattle.vpn_holdings.specs.Moved
+pub use Rattle.vpn_holdings.specs.Ranges
+pub use Rattle.vpn_holdings.specs.Routes
+pub use Rattle.vpn_holdings.specs.Touched
+pub use Rattle.vpn_holdings.specs.TouchedKeys
+pub use Rattle.vpn_holdings.specs.Views
+pub use Rattle.vpn_holdings.specs.NodeModel
+pub use Rattle.vpn_holdings.specs.ControlSilentAgentLaws
