@@ -87,7 +87,7 @@ module _ (h : Holdings) (peers : List Map) (agents : List Told) (moved : List Pa
     within_same : (d : ℕ) (subnet : Block) → d ≤ s.chain.services → has_path_within h (hop_at s d) subnet ≡ has_path_within later (hop_at s d) subnet
     within_same d subnet w = ap (list_any (λ p. is_inside p.prefix subnet)) (received_same (hop_at s d) (untouched d w))
 
-    up_same : (d : ℕ) (subnet : Block) → d ≤ s.chain.services → is_up h s subnet d ≡ is_up later s subnet d
+    pub up_same : (d : ℕ) (subnet : Block) → d ≤ s.chain.services → is_up h s subnet d ≡ is_up later s subnet d
     up_same zero subnet w = within_same zero subnet w
     up_same (suc d) subnet w = λ i. within_same (suc d) subnet w i || (is_some (published_same (suc d) w i) && up_same d subnet (before d s.chain.services w) i)
       where

@@ -57,7 +57,7 @@ path_total = on_total numbers nat_list_cmp_total
 abbrev of_numbers : List ℕ → Path
 of_numbers ns = record { next_hop = record { 0 = get_or ns 0 0 }; label = record { 0 = get_or ns 1 0 }; rd = record { 0 = get_or ns 2 0 }; session = get_or ns 3 0 }
 
-one_path : (a b : Path) → is_better a b ≡ false → is_better b a ≡ false → a ≡ b
+pub one_path : (a b : Path) → is_better a b ≡ false → is_better b a ≡ false → a ≡ b
 one_path a b ab ba = by_case (path_cmp a b) refl
   where
     by_case : (r : Ordering) → path_cmp a b ≡ r → a ≡ b

@@ -20,6 +20,7 @@ pub mod Along
 pub mod Short
 pub mod Before
 pub mod Choosing
+pub mod Best
 pub mod Keeping
 pub mod Keyed
 pub mod LedAt

@@ -54,6 +54,20 @@ led_at h i prefix is_right =
 abbrev pub paths_at : Holdings → InstanceId → Block → List Path
 paths_at h i prefix = map plain (of_prefix prefix (paths_of h i))
 
+-- the path that is selected for a prefix of an instance
+abbrev pub selected_at : Holdings → InstanceId → Block → Option Path
+selected_at h i prefix = option_map plain (get (table h i) prefix)
+
+-- the one of two paths that is used, where they are there, and that of many which some places have
+abbrev pub better_of : Option Path → Option Path → Option Path
+better_of best None = best
+better_of None (Some p) = Some p
+better_of (Some b) (Some p) = if is_better p b then Some p else Some b
+
+abbrev pub best_over : {X : Type 0} → (X → Option Path) → Option Path → List X → Option Path
+best_over f best [] = best
+best_over f best (x ∷ xs) = best_over f (better_of best (f x)) xs
+
 -- one of some paths, and none of them is better; or there are none
 abbrev pub IsChosen : List Path → Option Path → Type 0
 IsChosen paths None = paths ≡ []

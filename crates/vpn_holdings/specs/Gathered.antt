@@ -1,13 +1,14 @@
 -- What is gathered of what agents told, and what holds of every feed that is held.
-use Rattle.std.specs.Prelude.{◌≤◌, List, map}
+use Rattle.std.specs.Prelude.{◌≤◌, ◌++◌, List, map}
 use Rattle.std.specs.declared.cmp.Ordering.{Ordering}
 use Rattle.std.specs.declared.option.Option.{Option}
 use Rattle.std.specs.declared.option.Option.TheVariants.{Some, None}
 use Rattle.std.specs.List.{filter_map, flat_map}
 use Rattle.std.specs.FinMap.{entries, from_entries, keys}
+use Rattle.ov_types.specs.Prefix.{Block}
 use Rattle.ov_types.specs.declared.keys.UpKey.{UpKey}
 use Rattle.ov_types.specs.declared.keys.UpKey.TheVariants as Up
-use Rattle.path_select.specs.NodeModel.Keys.{Key, Publish, Subscribe}
+use Rattle.path_select.specs.NodeModel.Keys.{Key, Publish, Subscribe, Vpn}
 use Rattle.path_select.specs.NodeModel.Members.{Member}
 use Rattle.path_select.specs.NodeModel.Values.{Value, Label}
 use Rattle.path_select.specs.NodeModel.Maps.{Map}
@@ -34,6 +35,18 @@ keys_told a = filter_map (λ e. up_key e.0 e.1) (entries a.map)
 -- and of what all agents told, one after the other
 abbrev pub held_keys : Holdings → List UpKey
 held_keys h = flat_map keys_told h.agents
+
+-- the prefixes of what agents and peers told
+abbrev pub prefix_in : Key → Option Block
+prefix_in (Publish i prefix) = Some prefix
+prefix_in (Vpn k) = Some k.prefix
+prefix_in _ = None
+
+abbrev pub prefixes_in : Map → List Block
+prefixes_in m = filter_map (λ e. prefix_in e.0) (entries m)
+
+abbrev pub prefixes_told : Holdings → List Block
+prefixes_told h = flat_map (λ a. prefixes_in a.map) h.agents ++ flat_map prefixes_in h.peers
 
 -- each held use has one of 3072 numbers, and at most 15 services
 abbrev pub UsesAreInRange : Map → Type 0

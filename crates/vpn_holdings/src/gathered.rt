@@ -4,6 +4,7 @@ ghost use Rattle.std.specs.BTreeMap.{IsOrdered};
 ghost use Rattle.route_targets.specs.Numbers.{hop_of};
 ghost use Rattle.path_select.specs.NodeModel.Uses.{hop_imports, imports};
 ghost use Rattle.vpn_holdings.specs.Gathered.{held_keys, in_order, keyed, keys_told, UsesAreInRange};
+ghost use Rattle.vpn_holdings.specs.Listing.{told_in};
 ghost use Rattle.vpn_holdings.specs.Views.{agent_of, up_order};
 
 use crate::chains::Side;
@@ -56,12 +57,23 @@ impl VpnHoldings {
     }
 
     /// The keys of what each agent told, agent by agent.
-    fn told_keys(&self) -> Result<Vec<UpKey>, NoMemory>
+    pub fn told_keys(&self) -> Result<Vec<UpKey>, NoMemory>
         ensures keys { IfOk result (λ keys. keys.items ≡ held_keys self.now) }
         ensures in_range { UsesAreInRange self.now.feed }
     {
         let mut keys = Vec::new(self.alloc);
         for agent in &self.agents {
+            agent.push_keys(&mut keys)?;
+        }
+        Ok(keys)
+    }
+
+    /// The keys of what the agent of a session told, in order: none where the session is no agent's.
+    pub fn keys_told(&self, session: u16) -> Result<Vec<UpKey>, NoMemory>
+        ensures { IfOk result (λ keys. keys.items ≡ keys_told (told_in self.now.agents session)) }
+    {
+        let mut keys = Vec::new(self.alloc);
+        if let Some(agent) = self.agent(session) {
             agent.push_keys(&mut keys)?;
         }
         Ok(keys)

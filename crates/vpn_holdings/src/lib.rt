@@ -1,10 +1,12 @@
-//! The tables of a control node, from what it holds. Each route is held once, and found by its session and by its prefix.
+//! What a control node holds, and what follows from it. Each route is held once, and found by its session and by its prefix.
 #![tactic(auto)]
 
 mod at;
 mod chains;
+mod choosing;
 mod forgetting;
 mod gathered;
+mod holdings;
 mod imports;
 mod kept;
 mod keys;
@@ -15,17 +17,17 @@ mod listing;
 mod moved;
 mod places;
 mod ports;
+mod prefixes;
 mod publishing;
 mod reaching;
 mod received;
 mod routes;
 mod sessions;
 mod table;
-mod holdings;
 mod touching;
 mod within;
 
 pub use chains::Side;
 pub use gathered::in_order;
-pub use routes::Route;
 pub use holdings::VpnHoldings;
+pub use routes::Route;

@@ -1,3 +1,12 @@
+-- Lemmas, in the order in which they stand on each other.
+mod Order
+mod Keeping
+mod UpStays
+mod Touching
+mod Same
+mod Less
+mod Dropped
+mod Nothing
 -- What is passed on of `vpn_holdings`, so that the crates above need not list it.
 pub use Rattle.vpn_holdings.proofs.AgentsIndexed
 pub use Rattle.vpn_holdings.proofs.Choosing

@@ -1,3 +1,7 @@
+-- The files of definitions, in the order in which they stand on each other.
+pub mod Stored
+pub mod Listed
+pub mod Changing
 -- What is passed on of `vpn_holdings`, so that the crates above need not list it.
 pub use Rattle.vpn_holdings.specs.Answers
 pub use Rattle.vpn_holdings.specs.At

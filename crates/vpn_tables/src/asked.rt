@@ -25,9 +25,14 @@ ghost use Rattle.vpn_holdings.specs.Touched.{imports_one, rows_by_key, touched_r
 ghost use Rattle.vpn_holdings.specs.TouchedKeys.{first_keyed, key_published, keys_led};
 ghost use Rattle.vpn_holdings.specs.Views.{up_order};
 
+use crate::listing::{listed, shown};
+use crate::stored::{entry_at, row_key};
 use crate::tables::VpnTables;
 use ov_sync::Delta;
-use ov_types::{Addr, InstanceId, Label, LowKey, LowValue, NoMemory, Prefix, TableRow, Target, UpKey, VpnKey, VpnRoute};
+use ov_types::{
+    Addr, InstanceId, Label, LowKey, LowValue, NoMemory, Prefix, TableRow, Target, UpKey, VpnKey,
+    VpnRoute,
+};
 use path_select::Path;
 use vpn_holdings::{Route, Side};
 
@@ -104,11 +109,12 @@ impl VpnTables {
 
 /// What follows of it.
 impl VpnTables {
-    /// The row of an instance for a prefix, where it has one: what `table` has there. It looks at what `paths_at` does.
+    /// The row of an instance for a prefix, where it has one: what `table` has there. It is looked up.
     pub fn row(&self, i: InstanceId, prefix: &Prefix) -> Result<Option<TableRow>, NoMemory>
         ensures { IfOk result (λ row. row ≡ row_at self.now i prefix.now) }
     {
-        self.held.row(i, prefix)
+        let entry = entry_at(&self.stored, row_key(i, prefix));
+        Ok(shown(entry.path))
     }
 
     /// The rows of an instance, in the order of their prefixes: of each prefix that is among the paths that it
@@ -116,7 +122,7 @@ impl VpnTables {
     pub fn table(&self, i: InstanceId) -> Result<Vec<(Prefix, TableRow)>, NoMemory>
         ensures { IfOk result (λ rows. rows.items ≡ rows_at self.now i) }
     {
-        self.held.table(i)
+        listed(self.alloc, &self.stored, i)
     }
 
     /// The paths of an instance to a prefix, in some order: the received ones, and the re-originated ones. It looks at
@@ -142,7 +148,8 @@ impl VpnTables {
     pub fn up(&self, hop: InstanceId, subnet: &Prefix, right: bool) -> bool
         ensures { result ≡ is_up_at self.now hop subnet.now right }
     {
-        self.held.up(hop, subnet, right)
+        let entry = entry_at(&self.stored, row_key(hop, subnet));
+        entry.is_up(right)
     }
 
     /// The own routes, by session and then by publication. Two may have one key; the first of these counts.
@@ -255,7 +262,11 @@ impl VpnTables {
     }
 
     /// The rows that a change of paths to a prefix, with these targets before and after it, may change.
-    pub fn touched_rows(&self, targets: &[Target], prefix: Prefix) -> Result<Vec<(InstanceId, Prefix)>, NoMemory>
+    pub fn touched_rows(
+        &self,
+        targets: &[Target],
+        prefix: Prefix,
+    ) -> Result<Vec<(InstanceId, Prefix)>, NoMemory>
         ensures { IfOk result (λ rows. rows.items ≡ touched_rows self.now targets.now prefix) }
     {
         self.held.touched_rows(targets, prefix)

@@ -1,7 +1,15 @@
-//! The tables of a control node, from what it holds.
+//! The tables of a control node: what it holds, and what follows of it for each instance and prefix, stored and made anew
+//! where a change touches it.
 #![tactic(auto)]
 
+mod agents;
 mod asked;
+mod counted;
+mod dropping;
+mod following;
+mod listing;
+mod objects;
+mod stored;
 mod tables;
 
 pub use tables::VpnTables;

@@ -1,13 +1,23 @@
-//! What a control node holds, and how it changes.
-ghost use Rattle.std.specs.Prelude.{◌≡◌, OnOk, OnErr};
+//! What a control node holds, with what follows from it, and how it changes.
+ghost use Rattle.std.specs.Prelude.{◌≡◌, ◌≤◌, ◌<◌, ◌+◌, OnOk, OnErr};
 ghost use Rattle.ov_sync.specs.Keyed.{PutOf, IsPut};
-ghost use Rattle.vpn_holdings.specs.Ranges.{Fits};
 ghost use Rattle.vpn_holdings.specs.Changes.{nothing, with_low, with_route, with_agent, with_publication, without};
+ghost use Rattle.vpn_holdings.specs.Moved.{targets_by_publication, targets_by_route};
+ghost use Rattle.vpn_holdings.specs.Ranges.{Fits};
+ghost use Rattle.vpn_holdings.specs.Touched.{touched};
 
+use crate::agents::change_agent;
+use crate::counted::{change_publication, change_route};
+use crate::dropping::drop_session;
+use crate::objects::change_low;
+use crate::stored::Stored;
 use ov_sync::Delta;
 use ov_types::{Addr, Label, LowKey, LowValue, NoMemory, UpKey, VpnKey, VpnRoute};
+use path_select::Steps;
 use std::alloc::Global;
-use std::marker::Model;
+use std::collections::BTreeMap;
+use std::marker::{Brand, Model};
+use std::sync::ledger::{Blank, Ledger};
 use vpn_holdings::VpnHoldings;
 
 /// What a control node holds of its sessions, and what follows from it. Session 0 is the feed; the sessions of peers
@@ -15,17 +25,23 @@ use vpn_holdings::VpnHoldings;
 #[derive(Drop)]
 pub struct VpnTables {
     pub(crate) held: VpnHoldings,
+    /// What follows of each instance and prefix.
+    pub(crate) stored: Stored,
+    pub(crate) alloc: Global,
 }
 
 impl Model for VpnTables {
-    ghost use Rattle.path_select.specs.NodeModel.Paths.{Holdings};
+    ghost use Rattle.vpn_holdings.specs.NodeModel.Paths.{Holdings};
     ghost use Rattle.vpn_holdings.specs.Codes.{coded_holdings};
+    ghost use Rattle.vpn_tables.specs.Stored.{AreStored};
 
     ghost Value = { Holdings };
 
     ghost coded = { coded_holdings };
 
     ghost view = { λ s. s.held };
+
+    ghost invariant = { λ s. AreStored s.stored s.held };
 }
 
 impl VpnTables {
@@ -35,6 +51,8 @@ impl VpnTables {
     {
         VpnTables {
             held: VpnHoldings::new(alloc, asn),
+            stored: BTreeMap::new(alloc),
+            alloc,
         }
     }
 
@@ -45,7 +63,51 @@ impl VpnTables {
         ensures err { OnErr result (self.new ≡ self.old) }
         ensures memory { OnErr result (IsPut delta) }
     {
-        self.held.set_low(delta)
+        change_low(self.alloc, &mut self.held, &mut self.stored, delta)
+    }
+
+    /// Applies a change that a peer told on its session. Session 0 is the feed, which tells no routes. It takes at most as
+    /// many steps as the change touches.
+    pub fn set_peer_route_counted<L: Ledger>(
+        &mut self,
+        session: u16,
+        delta: Delta<VpnKey, VpnRoute>,
+        steps: &mut Steps<L>,
+    ) -> Result<(), NoMemory>
+        ensures ok { OnOk result (self.new ≡ with_route self.old session delta) }
+        ensures err { OnErr result (self.new ≡ self.old) }
+        ensures steps { steps.new ≤ steps.old + touched self.old (targets_by_route self.old session delta) }
+    {
+        change_route(
+            self.alloc,
+            &mut self.held,
+            &mut self.stored,
+            session,
+            delta,
+            steps,
+        )
+    }
+
+    /// Applies a change that an agent told on its session. A session that is no agent's changes nothing. It takes at most
+    /// as many steps as the change touches.
+    pub fn set_publication_counted<L: Ledger>(
+        &mut self,
+        session: u16,
+        delta: Delta<UpKey, Label>,
+        steps: &mut Steps<L>,
+    ) -> Result<(), NoMemory>
+        ensures ok { OnOk result (self.new ≡ with_publication self.old session delta) }
+        ensures err { OnErr result (self.new ≡ self.old) }
+        ensures steps { steps.new ≤ steps.old + touched self.old (targets_by_publication self.old session delta) }
+    {
+        change_publication(
+            self.alloc,
+            &mut self.held,
+            &mut self.stored,
+            session,
+            delta,
+            steps,
+        )
     }
 
     /// Applies a change that a peer told on its session. Session 0 is the feed, which tells no routes.
@@ -57,7 +119,7 @@ impl VpnTables {
         ensures ok { OnOk result (self.new ≡ with_route self.old session delta) }
         ensures err { OnErr result (self.new ≡ self.old) }
     {
-        self.held.set_peer_route(session, delta)
+        set_route_on::<Brand>(self, session, delta, Blank::new(1))
     }
 
     /// Says whose session it is. What its agent told stays.
@@ -65,7 +127,13 @@ impl VpnTables {
         ensures ok { OnOk result (self.new ≡ with_agent self.old session address) }
         ensures err { OnErr result (self.new ≡ self.old) }
     {
-        self.held.set_agent(session, address)
+        change_agent(
+            self.alloc,
+            &mut self.held,
+            &mut self.stored,
+            session,
+            address,
+        )
     }
 
     /// Applies a change that an agent told on its session. A session that is no agent's changes nothing.
@@ -77,13 +145,45 @@ impl VpnTables {
         ensures ok { OnOk result (self.new ≡ with_publication self.old session delta) }
         ensures err { OnErr result (self.new ≡ self.old) }
     {
-        self.held.set_publication(session, delta)
+        set_publication_on::<Brand>(self, session, delta, Blank::new(1))
     }
 
     /// Empties what a session gave; whose session it is stays. It takes no memory.
     pub fn drop_session(&mut self, session: u16)
         ensures { self.new ≡ without self.old session }
     {
-        self.held.drop_session(session);
+        drop_session(&mut self.held, &mut self.stored, session);
     }
+}
+
+fn set_route_on<L: Ledger>(
+    tables: &mut VpnTables,
+    session: u16,
+    delta: Delta<VpnKey, VpnRoute>,
+    blank: Blank,
+) -> Result<(), NoMemory>
+    requires name { blank.name ≡ L.name }
+    requires parts { blank.parts ≡ L.parts }
+    requires some { 0 < blank.parts }
+    ensures ok { OnOk result (tables.new ≡ with_route tables.old session delta) }
+    ensures err { OnErr result (tables.new ≡ tables.old) }
+{
+    let mut steps = Steps::<L>::new(blank);
+    tables.set_peer_route_counted(session, delta, &mut steps)
+}
+
+fn set_publication_on<L: Ledger>(
+    tables: &mut VpnTables,
+    session: u16,
+    delta: Delta<UpKey, Label>,
+    blank: Blank,
+) -> Result<(), NoMemory>
+    requires name { blank.name ≡ L.name }
+    requires parts { blank.parts ≡ L.parts }
+    requires some { 0 < blank.parts }
+    ensures ok { OnOk result (tables.new ≡ with_publication tables.old session delta) }
+    ensures err { OnErr result (tables.new ≡ tables.old) }
+{
+    let mut steps = Steps::<L>::new(blank);
+    tables.set_publication_counted(session, delta, &mut steps)
 }

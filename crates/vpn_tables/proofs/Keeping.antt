@@ -1,0 +1,68 @@
+-- What is stored stays what follows, where what may differ is made anew.
+use Rattle.std.specs.Prelude.{◌≡◌, ◌≤◌, ◌+◌, ℕ, suc, length, List, [], ◌∷◌, map, Bool, true, false, cond, ◌||◌, is_some}
+use Rattle.std.specs.declared.option.Option.{Option}
+use Rattle.std.specs.declared.option.Option.TheVariants.{Some, None}
+use Rattle.std.specs.BTreeMap as tree
+use Rattle.std.specs.BTreeMap.{BTreeMap}
+use Rattle.std.specs.List.{list_any}
+use Rattle.std.specs.Option.{option_map}
+use Rattle.std.proofs.lemmas.Bool.{true≢false, or_left, or_right}
+use Rattle.std.proofs.Common.{refl, sym, ◌∙◌, ap, subst, inl, inr, arith}
+use Rattle.ov_types.specs.Prefix.{Block}
+use Rattle.ov_types.specs.declared.numbers.InstanceId.{InstanceId}
+use Rattle.node_model.specs.Members.{Member}
+use Rattle.node_model.specs.Paths.{Holdings}
+use Rattle.vpn_tables.specs.Stored.{AreStored, entry_of, entry_or, is_row, key_at, nothing_stored, row_order, stored_at}
+use Rattle.vpn_tables.specs.declared.stored.Entry.{Entry}
+use Rattle.vpn_tables.specs.declared.stored.RowKey.{RowKey}
+use Rattle.vpn_tables.proofs.Order.{row_is, row_itself}
+
+-- ---- one key after the other
+pub one_place : (b r o n : Bool) → (b ≡ true → n ≡ true) → (o ≡ true → n ≡ true) → ((b || r) || o) ≡ true → (r || n) ≡ true
+one_place b true o n f g e = refl
+one_place true false o n f g e = f refl
+one_place false false o n f g e = g e
+
+abbrev renewed : Entry → Option Entry → Option Entry
+renewed e o = option_map (λ _. e) o
+
+pub one_renewed : (b r : Bool) (e : Entry) (o : Option Entry) → cond r (renewed e (cond b (renewed e o) o)) (cond b (renewed e o) o) ≡ cond (b || r) (renewed e o) o
+one_renewed true true e None = refl
+one_renewed true true e (Some x) = refl
+one_renewed true false e o = refl
+one_renewed false r e o = refl
+
+-- ---- a listed row is among the keys
+pub listed : (k : RowKey) (rows : List (InstanceId × Block)) → Member (k.instance, k.prefix) rows → list_any (is_row k) (map key_at rows) ≡ true
+listed k [] m = absurd m
+listed k (e ∷ rows) (inl is) = or_left (is_row k (key_at e)) (list_any (is_row k) (map key_at rows)) (ap (λ (e : InstanceId × Block). is_row k (key_at e)) is ∙ row_itself k)
+listed k (e ∷ rows) (inr m) = or_right (is_row k (key_at e)) (list_any (is_row k) (map key_at rows)) (listed k rows m)
+
+pub not_listed : (keys : List RowKey) (rows : List (InstanceId × Block)) (k : RowKey) → keys ≡ map key_at rows → list_any (is_row k) keys ≡ false → Member (k.instance, k.prefix) rows → ⊥
+not_listed keys rows k e none m = true≢false (sym (listed k rows m) ∙ ap (list_any (is_row k)) (sym e) ∙ none)
+
+-- ---- what is made anew in its places
+pub renewed_stored : (stored next : BTreeMap RowKey Entry) (keys : List RowKey) (h g : Holdings) → AreStored stored h
+    → ((k : RowKey) → list_any (is_row k) keys ≡ true → is_some (tree.get row_order stored k) ≡ true)
+    → ((k : RowKey) → list_any (is_row k) keys ≡ false → entry_of h k ≡ entry_of g k)
+    → ((k : RowKey) → tree.get row_order next k ≡ cond (list_any (is_row k) keys) (renewed (entry_of g k) (tree.get row_order stored k)) (tree.get row_order stored k))
+    → AreStored next g
+renewed_stored stored next keys h g are places same is k =
+    ap entry_or (is k) ∙ by_case (list_any (is_row k) keys) (tree.get row_order stored k) (places k) (same k) (are k)
+  where
+    by_case : (b : Bool) (o : Option Entry) → (b ≡ true → is_some o ≡ true) → (b ≡ false → entry_of h k ≡ entry_of g k) → entry_or o ≡ entry_of h k
+        → entry_or (cond b (renewed (entry_of g k) o) o) ≡ entry_of g k
+    by_case true None p s e = absurd (true≢false (sym (p refl)))
+    by_case true (Some x) p s e = refl
+    by_case false o p s e = e ∙ s refl
+
+-- ---- steps
+many : (rows : List (InstanceId × Block)) → length (map key_at rows) ≡ length rows
+many [] = refl
+many (e ∷ rows) = ap suc (many rows)
+
+pub few_steps : (after before : ℕ) (keys : List RowKey) (rows : List (InstanceId × Block)) (bound : ℕ) → after ≤ before + length keys → keys ≡ map key_at rows → length rows ≤ bound → after ≤ before + bound
+few_steps after before keys rows bound h e f = at_most (length keys) (length rows) (ap length e ∙ many rows) h f
+  where
+    at_most : (m n : ℕ) → m ≡ n → after ≤ before + m → n ≤ bound → after ≤ before + bound
+    at_most m n e h f = omega arith
