@@ -37,11 +37,11 @@ pub record IsLess (g h : Holdings) : Type 0 where
   pub published : (c : ℕ) → is_some (publisher g c) ≡ true → is_some (publisher h c) ≡ true
 
 -- ---- booleans
-more_left : (a b c d : Bool) → (a ≡ true → c ≡ true) → (b ≡ true → d ≡ true) → (a || b) ≡ true → (c || d) ≡ true
+pub more_left : (a b c d : Bool) → (a ≡ true → c ≡ true) → (b ≡ true → d ≡ true) → (a || b) ≡ true → (c || d) ≡ true
 more_left true b c d f g e = or_left c d (f refl)
 more_left false b c d f g e = or_right c d (g e)
 
-more_both : (a b c d : Bool) → (a ≡ true → c ≡ true) → (b ≡ true → d ≡ true) → (a && b) ≡ true → (c && d) ≡ true
+pub more_both : (a b c d : Bool) → (a ≡ true → c ≡ true) → (b ≡ true → d ≡ true) → (a && b) ≡ true → (c && d) ≡ true
 more_both true b c d f g e = ap (λ x. x && d) (f refl) ∙ g e
 more_both false b c d f g e = absurd (true≢false (sym e))
 

@@ -5,8 +5,12 @@ mod UpStays
 mod Touching
 mod Same
 mod Less
+mod Alike
 mod Dropped
 mod Nothing
+mod AgentMoved
+mod ObjectMoved
+mod Possible
 -- What is passed on of `vpn_holdings`, so that the crates above need not list it.
 pub use Rattle.vpn_holdings.proofs.AgentsIndexed
 pub use Rattle.vpn_holdings.proofs.Choosing

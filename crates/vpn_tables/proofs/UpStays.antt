@@ -40,7 +40,7 @@ side_parts feed n b s e = of_held (use_from n (object feed (key.ChainUse n))) re
         (subst (λ (s : Side). Member s.chain (uses feed)) same q.0, (subst (λ (s : Side). s.chain.number ≡ n) same q.1, subst (λ (s : Side). s.is_right ≡ b) same refl))
 
 -- a row of a place of a use, for a subnet of a side
-hop_number : (i u : ℕ) → nat_lt 16383 i ≡ true → u ≡ (i - 16384) / 16 → 16384 + 16 * u + (i - 16384) % 16 ≡ i
+pub hop_number : (i u : ℕ) → nat_lt 16383 i ≡ true → u ≡ (i - 16384) / 16 → 16384 + 16 * u + (i - 16384) % 16 ≡ i
 hop_number i u e f = grind arith
 
 pub at_use : (s : Side) (i : InstanceId) (q : Block) → is_hop i ≡ true → s.chain.number ≡ use_of i → place_of i ≤ s.chain.services → list_any (same_prefix q) (subnets s) ≡ true
