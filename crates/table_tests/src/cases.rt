@@ -8,7 +8,7 @@ use crate::words::{both, number};
 use ov_io::TextOut;
 use ov_types::NoMemory;
 use std::alloc::Global;
-use vpn_stored_rows::StoredTables;
+use vpn_tables::VpnTables;
 
 /// Plays the cases of a text, which stand between blank lines.
 pub(crate) fn play_all(alloc: Global, text: &str, tally: &mut Tally) -> Result<(), NoMemory> {
@@ -42,7 +42,7 @@ fn play_in(
     steps: &str,
     tally: &mut Tally,
 ) -> Result<(), NoMemory> {
-    let mut tables = StoredTables::new(alloc, asn);
+    let mut tables = VpnTables::new(alloc, asn);
     play_steps(alloc, name, steps, &mut tables, tally)
 }
 
@@ -50,7 +50,7 @@ fn play_steps(
     alloc: Global,
     name: &str,
     steps: &str,
-    tables: &mut StoredTables,
+    tables: &mut VpnTables,
     tally: &mut Tally,
 ) -> Result<(), NoMemory> {
     for line in steps.split("\n") {
@@ -66,7 +66,7 @@ fn play_step(
     alloc: Global,
     name: &str,
     line: &str,
-    tables: &mut StoredTables,
+    tables: &mut VpnTables,
     tally: &mut Tally,
 ) -> Result<(), NoMemory> {
     let mut came = TextOut::new(alloc);

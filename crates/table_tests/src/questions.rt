@@ -9,13 +9,12 @@ use ov_io::TextOut;
 use ov_sync::Delta;
 use ov_types::{Addr, InstanceId, LowKey, LowValue, NoMemory, Prefix, TableRow, VpnKey, VpnRoute};
 use std::alloc::Global;
-use vpn_stored_rows::StoredTables;
 use vpn_tables::VpnTables;
 
 /// Tells what is asked.
 pub(crate) fn ask(
     alloc: Global,
-    tables: &StoredTables,
+    tables: &VpnTables,
     question: &str,
     out: &mut TextOut,
 ) -> Result<(), CaseFault> {
@@ -26,12 +25,10 @@ pub(crate) fn ask(
         "up" => tell_up(tables, given, out),
         "select" => tell_selected(alloc, given, out),
         "better" => tell_better(given, out),
-        "touched" => tell_touched(alloc, tables.held(), given, out),
-        "led" | "own" | "known" | "asn" | "chain" => ask_all(tables.held(), word, out),
-        "publisher" | "subscribed" | "slice" | "address" => {
-            ask_one(tables.held(), word, given, out)
-        }
-        _ => ask_wanted(alloc, tables.held(), word, given, out),
+        "touched" => tell_touched(alloc, tables, given, out),
+        "led" | "own" | "known" | "asn" | "chain" => ask_all(tables, word, out),
+        "publisher" | "subscribed" | "slice" | "address" => { ask_one(tables, word, given, out) }
+        _ => ask_wanted(alloc, tables, word, given, out),
     }
 }
 
@@ -61,18 +58,14 @@ fn ask_one(
     }
 }
 
-/// The rows of an instance. Each is also that of its prefix alone, and they are those of the plain tables.
-fn tell_rows(
-    tables: &StoredTables,
-    instance: InstanceId,
-    out: &mut TextOut,
-) -> Result<(), CaseFault> {
+/// The rows of an instance. Each is also that of its prefix alone.
+fn tell_rows(tables: &VpnTables, instance: InstanceId, out: &mut TextOut) -> Result<(), CaseFault> {
     let rows = tables.table(instance)?;
     push_rows(tables, instance, &rows, out)
 }
 
 fn push_rows(
-    tables: &StoredTables,
+    tables: &VpnTables,
     instance: InstanceId,
     rows: &[(Prefix, TableRow)],
     out: &mut TextOut,
@@ -83,9 +76,6 @@ fn push_rows(
             out.push(b", and another row alone")?;
         }
     }
-    if !are_plain(tables.held(), instance, rows)? {
-        out.push(b", and other rows in the plain tables")?;
-    }
     Ok(())
 }
 
@@ -94,47 +84,34 @@ fn push_row(prefix: &Prefix, row: &TableRow, out: &mut TextOut) -> Result<(), No
     write!(out, "{prefix} {row}")
 }
 
-/// Whether a row is that of its prefix alone, also in the plain tables.
+/// Whether a row is that of its prefix alone.
 fn is_alone(
-    tables: &StoredTables,
+    tables: &VpnTables,
     instance: InstanceId,
     prefix: &Prefix,
     row: &TableRow,
 ) -> Result<bool, CaseFault> {
-    let stored = tables.row(instance, prefix)?;
-    let plain = tables.held().row(instance, prefix)?;
-    Ok(stored == Some(*row) && plain == Some(*row))
-}
-
-fn are_plain(
-    tables: &VpnTables,
-    instance: InstanceId,
-    rows: &[(Prefix, TableRow)],
-) -> Result<bool, CaseFault> {
-    let plain = tables.table(instance)?;
-    Ok(plain.as_slice() == rows)
+    let alone = tables.row(instance, prefix)?;
+    Ok(alone == Some(*row))
 }
 
 /// How many rows an instance has.
 fn tell_count(
-    tables: &StoredTables,
+    tables: &VpnTables,
     instance: InstanceId,
     out: &mut TextOut,
 ) -> Result<(), CaseFault> {
-    let rows = tables.held().table(instance)?;
+    let rows = tables.table(instance)?;
     told(write!(out, "{}", rows.len()))
 }
 
-/// Whether a subnet is up at a place, seen from an end; the plain tables say the same.
-fn tell_up(tables: &StoredTables, given: &str, out: &mut TextOut) -> Result<(), CaseFault> {
+/// Whether a subnet is up at a place, seen from an end.
+fn tell_up(tables: &VpnTables, given: &str, out: &mut TextOut) -> Result<(), CaseFault> {
     let (end, rest) = both(given)?;
     let (place, subnet) = both(rest)?;
     let place = instance(place)?;
     let subnet = prefix(subnet)?;
     let is_up = tables.up(place, &subnet, end == "right");
-    if tables.held().up(place, &subnet, end == "right") != is_up {
-        out.push(b"otherwise in the plain tables, ")?;
-    }
     told(write!(out, "{is_up}"))
 }
 
