@@ -13,10 +13,10 @@ ghost use Rattle.vpn_holdings.specs.Indexed.{received_at};
 ghost use Rattle.vpn_holdings.specs.Routes.{path_of};
 
 use crate::chains::Side;
+use crate::holdings::VpnHoldings;
 use crate::reaching::is_among;
 use crate::received::{keep, push_labels, push_routes};
 use crate::routes::{Route, is_same};
-use crate::holdings::VpnHoldings;
 use ov_types::{InstanceId, NoMemory, Prefix, TableRow, UpKey};
 use path_select::{Path, select};
 use route_targets::{UseHop, hop_of, rd, target};

@@ -13,9 +13,9 @@ ghost use Rattle.vpn_holdings.specs.Views.{agent_of, peer_of};
 ghost use Rattle.vpn_holdings.specs.declared.places.LabelAt.{LabelAt as LabelAtOf};
 ghost use Rattle.vpn_holdings.specs.declared.places.RouteAt.{RouteAt as RouteAtOf};
 
+use crate::holdings::Agent;
 use crate::places::{LabelAt, Labels, RouteAt, Routes, route_at};
 use crate::sessions::{Peer, change_at, tell_agent};
-use crate::holdings::Agent;
 use ov_sync::Delta;
 use ov_types::{Label, NoMemory, Prefix, UpKey, VpnKey, VpnRoute};
 use std::alloc::Global;

@@ -18,8 +18,8 @@ ghost use Rattle.vpn_holdings.specs.Views.{agent_of};
 
 use crate::at::is_to;
 use crate::chains::Side;
-use crate::routes::Route;
 use crate::holdings::{Agent, VpnHoldings};
+use crate::routes::Route;
 use ov_types::{Addr, InstanceId, Label, LowKey, NoMemory, Rd, Target, UpKey, VpnKey};
 use route_targets::rd;
 

@@ -6,8 +6,8 @@ ghost use Rattle.vpn_holdings.specs.Leading.{leads, sides_of_held, use_at};
 ghost use Rattle.vpn_holdings.specs.Routes.{path_of};
 
 use crate::chains::Side;
-use crate::routes::Route;
 use crate::holdings::VpnHoldings;
+use crate::routes::Route;
 use ov_types::{Addr, Label, LowKey, NoMemory};
 use path_select::Path;
 use route_targets::{rd, target};

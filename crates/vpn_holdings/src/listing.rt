@@ -15,8 +15,8 @@ ghost use Rattle.vpn_holdings.specs.Routes.{path_of};
 ghost use Rattle.vpn_holdings.specs.Views.{agent_of};
 
 use crate::chains::Side;
-use crate::routes::Route;
 use crate::holdings::{Agent, VpnHoldings};
+use crate::routes::Route;
 use ov_types::{Addr, InstanceId, LowKey, LowValue, NoMemory, UpKey};
 use route_targets::hop_instance;
 use std::alloc::Global;

@@ -58,7 +58,11 @@ fn label_at(session: u16, instance: InstanceId, prefix: &Prefix) -> LabelAt
 }
 
 /// Where a publication stands, with its prefix: nowhere where the session is no agent's, and no subscription does.
-pub(crate) fn place_told(holdings: &VpnHoldings, session: u16, key: &UpKey) -> Option<(LabelAt, Prefix)>
+pub(crate) fn place_told(
+    holdings: &VpnHoldings,
+    session: u16,
+    key: &UpKey,
+) -> Option<(LabelAt, Prefix)>
     ensures { result ≡ place_told holdings.now.agents session key.now }
 {
     let UpKey::Publish(instance, prefix) = *key else {

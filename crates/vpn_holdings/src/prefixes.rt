@@ -1,7 +1,8 @@
 //! The prefixes of what agents and peers told.
 ghost use Rattle.std.specs.Prelude.{◌≡◌, ◌++◌, OnOk, IfOk};
 ghost use Rattle.std.specs.List.{flat_map};
-ghost use Rattle.vpn_holdings.specs.Gathered.{prefixes_in, prefixes_told};
+ghost use Rattle.path_select.specs.NodeModel.Reaching.{AreShort};
+ghost use Rattle.vpn_holdings.specs.Gathered.{UsesAreInRange, prefixes_in, prefixes_told};
 ghost use Rattle.vpn_holdings.specs.Indexed.{AreInOrder};
 ghost use Rattle.vpn_holdings.specs.Views.{agent_of, peer_of};
 
@@ -38,6 +39,14 @@ impl VpnHoldings {
     /// The agents stand in the order of their sessions.
     pub fn agents_are_in_order(&self)
         ensures { AreInOrder self.now.agents }
+    {
+        let _asn = self.asn;
+    }
+
+    /// Each held use has one of 3072 numbers, and at most 15 services.
+    pub fn uses_are_in_range(&self)
+        ensures in_range { UsesAreInRange self.now.feed }
+        ensures short { AreShort self.now.feed }
     {
         let _asn = self.asn;
     }

@@ -7,9 +7,9 @@ ghost use Rattle.vpn_holdings.specs.Indexed.{published_at, route_of, route_order
 ghost use Rattle.vpn_holdings.specs.Listing.{told_in};
 ghost use Rattle.vpn_holdings.specs.Views.{agent_of};
 
+use crate::holdings::{Agent, VpnHoldings};
 use crate::imports::Imports;
 use crate::places::{LabelAt, Labels, RouteAt, Routes, labels_to, routes_to};
-use crate::holdings::{Agent, VpnHoldings};
 use ov_types::{Addr, Label, NoMemory, Prefix, UpKey, VpnKey, VpnRoute};
 use path_select::Path;
 use route_targets::{rd, target};

@@ -12,8 +12,8 @@ ghost use Rattle.vpn_holdings.specs.Routes.{path_of};
 ghost use Rattle.vpn_holdings.specs.Touched.{imports_one};
 ghost use Rattle.vpn_holdings.specs.Views.{agent_of};
 
-use crate::imports::Imports;
 use crate::holdings::{Agent, VpnHoldings};
+use crate::imports::Imports;
 use ov_types::{Addr, InstanceId, Label, LowKey, Prefix, Target, UpKey};
 use path_select::Path;
 use route_targets::{circuit_address, circuit_instance, hop_of, rd, target};

@@ -13,10 +13,10 @@ ghost use Rattle.vpn_holdings.specs.Least.{least_of, offer_all};
 ghost use Rattle.vpn_holdings.specs.Routes.{path_of};
 ghost use Rattle.vpn_holdings.specs.Views.{agent_of, peer_of};
 
+use crate::holdings::{Agent, VpnHoldings};
 use crate::imports::Imports;
 use crate::least::{offer, rows};
 use crate::routes::Route;
-use crate::holdings::{Agent, VpnHoldings};
 use ov_sync::SyncIn;
 use ov_types::{
     InstanceId, Label, LowKey, NoMemory, Prefix, TableRow, Target, UpKey, VpnKey, VpnRoute,

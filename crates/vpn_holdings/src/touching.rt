@@ -12,9 +12,9 @@ ghost use Rattle.vpn_holdings.specs.Moved.{targets_by_publication, targets_by_ro
 ghost use Rattle.vpn_holdings.specs.Touched.{imports_one, rows_by_key, rows_if_touched, touched_rows};
 
 use crate::chains::Side;
+use crate::holdings::VpnHoldings;
 use crate::listing::push_places;
 use crate::moved::{route_key, told_key};
-use crate::holdings::VpnHoldings;
 use ov_sync::Delta;
 use ov_types::{InstanceId, Label, LowKey, NoMemory, Prefix, Target, UpKey, VpnKey, VpnRoute};
 

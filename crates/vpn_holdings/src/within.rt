@@ -8,9 +8,9 @@ ghost use Rattle.vpn_holdings.specs.Indexed.{leads_route, route_order};
 ghost use Rattle.vpn_holdings.specs.declared.places.LabelAt.{LabelAt as LabelAtOf};
 ghost use Rattle.vpn_holdings.specs.declared.places.RouteAt.{RouteAt as RouteAtOf};
 
+use crate::holdings::VpnHoldings;
 use crate::imports::Imports;
 use crate::places::{LabelAt, Labels, RouteAt, Routes};
-use crate::holdings::VpnHoldings;
 use ov_types::{Addr, InstanceId, Prefix, Rd};
 use std::collections::btree_map::Range;
 use std::ops::Bound;

@@ -1,5 +1,5 @@
 -- Where something follows of an instance, something was told with the prefix, or it is a subnet of the instance's use.
-use Rattle.std.specs.Prelude.{◌≡◌, ◌⊎◌, ℕ, suc, ◌<◌, ◌≤◌, ◌+◌, ◌*◌, ◌-◌, ◌/◌, ◌%◌, List, [], ◌∷◌, ◌++◌, map, Bool, true, false, cond, ◌==◌, nat_le}
+use Rattle.std.specs.Prelude.{◌≡◌, ◌⊎◌, ℕ, suc, ◌<◌, ◌≤◌, ◌+◌, ◌*◌, ◌-◌, ◌/◌, ◌%◌, List, [], ◌∷◌, ◌++◌, map, Bool, true, false, cond, ◌==◌, is_some, nat_le}
 use Rattle.std.specs.declared.option.Option.{Option}
 use Rattle.std.specs.declared.option.Option.TheVariants.{Some, None}
 use Rattle.std.specs.List.{enumerate_from, filter, filter_map, flat_map, list_any}
@@ -7,7 +7,7 @@ use Rattle.std.specs.FinMap.{entries, get, get-insert}
 use Rattle.std.specs.Option.{option_map}
 use Rattle.std.specs.Ordering.{is_eq}
 use Rattle.std.specs.Cmp.{tied_itself}
-use Rattle.std.proofs.lemmas.Bool.{true≢false, eqb-true}
+use Rattle.std.proofs.lemmas.Bool.{true≢false, eqb-true, le-leb}
 use Rattle.std.proofs.lemmas.Option.{same_Some}
 use Rattle.std.proofs.Common.{refl, sym, ◌∙◌, ap, subst, inl, inr, arith}
 use Rattle.ov_sync.specs.declared.Delta.TheVariants.{Put}
@@ -21,21 +21,22 @@ use Rattle.node_model.specs.Keys.{Key, Low, Publish, Row, Subscribe, Vpn}
 use Rattle.node_model.specs.Values.{Entry as EntryValue, Label, Object, Route, Value}
 use Rattle.node_model.specs.Maps.{Map, as_object, object}
 use Rattle.node_model.specs.Members.{Member}
-use Rattle.node_model.specs.Uses.{Use, as_use, is_hop, place_of, use_from, use_of, uses}
+use Rattle.node_model.specs.Uses.{Use, as_use, held_use, is_hop, is_known, is_place, place_of, use_from, use_of, uses}
 use Rattle.node_model.specs.Paths.{Holdings, Path, has_target, own_paths, peer_path, peer_paths, received}
-use Rattle.node_model.specs.Reaching.{AreShort, Side, below, hop_at, reoriginated_paths, subnets}
+use Rattle.node_model.specs.Reaching.{AreShort, Side, below, hop_at, is_up, reoriginated_paths, subnets}
 use Rattle.node_model.specs.Tables.{paths_of, same_prefix, table}
 use Rattle.node_model.proofs.Members.{from_any, from_filter, from_filter_map, from_flat_map, in_either, in_filter_map, in_flat_map, in_left, in_map, in_right, member_get, none_some}
 use Rattle.node_model.proofs.Objects.{is_hop-hop, side_use, use_held, use_of-hop}
 use Rattle.node_model.proofs.Orders.{key_exact, key_total, prefix_same}
+use Rattle.node_model.proofs.Places.{use_found}
 use Rattle.node_model.proofs.Routes.{in_below, own_route_from, reoriginated_from}
 use Rattle.node_model.proofs.Selection.{selected_least}
-use Rattle.node_model.proofs.Unknown.{le_trans, place_at, place_at-within, target_from}
+use Rattle.node_model.proofs.Unknown.{le_trans, no_paths, place_at, place_at-within, target_from}
 use Rattle.path_select.specs.Selection.{plain}
-use Rattle.vpn_holdings.specs.Answers.{distance, is_up_at, is_up_on, side_at}
+use Rattle.vpn_holdings.specs.Answers.{distance, is_up_at, is_up_on, seen_from, side_at}
 use Rattle.vpn_holdings.specs.At.{selected_at}
 use Rattle.vpn_holdings.specs.Changes.{with_low}
-use Rattle.vpn_holdings.specs.Gathered.{held_keys, prefix_in, prefixes_in, prefixes_told}
+use Rattle.vpn_holdings.specs.Gathered.{UsesAreInRange, held_keys, prefix_in, prefixes_in, prefixes_told}
 use Rattle.control_change_laws.proofs.Wanted.{at_row}
 use Rattle.vpn_tables.specs.Changing.{instances_of, is_of, own_rows, rows_by_object, rows_published, subnets_by, subnets_of}
 use Rattle.vpn_tables.specs.Stored.{entry_of, nothing_stored}
@@ -86,17 +87,23 @@ test_not : (b c : Bool) → cond b false c ≡ true → (b ≡ false) × (c ≡ 
 test_not true c e = absurd (true≢false (sym e))
 test_not false c e = (refl, e)
 
-of_instances : (k : LowKey) (i : InstanceId) → is_of k i ≡ true → Member i (instances_of k)
-of_instances (key.Instance n) i e = inl (λ x. record { 0 = sym (eqb-true i.0 n (test_not (is_hop i) (i.0 == n) e).1) x })
-of_instances (key.ChainUse u) i e =
+-- the number of a use is one of them
+abbrev IsNumber : LowKey → Type 0
+IsNumber (key.ChainUse u) = u ≤ 3071
+IsNumber _ = Unit {0}
+
+of_instances : (k : LowKey) (i : InstanceId) → IsNumber k → is_of k i ≡ true → Member i (instances_of k)
+of_instances (key.Instance n) i b e = inl (λ x. record { 0 = sym (eqb-true i.0 n (test_not (is_hop i) (i.0 == n) e).1) x })
+of_instances (key.ChainUse u) i b e =
     let t = test_of (is_hop i) (use_of i == u) e in
     let at : hop_instance_of u (place_of i) ≡ i = λ x. record { 0 = hop_number i.0 u t.0 (sym (eqb-true (use_of i) u t.1)) x } in
-    subst (λ (j : InstanceId). Member j (map (hop_instance_of u) (below 16))) at (in_map (hop_instance_of u) (place_of i) (below 16) (in_below 16 (place_of i) (small (i.0 - 16384))))
+    subst (λ c. Member i (cond c (map (hop_instance_of u) (below 16)) [])) (sym (le-leb u 3071 b))
+    (subst (λ (j : InstanceId). Member j (map (hop_instance_of u) (below 16))) at (in_map (hop_instance_of u) (place_of i) (below 16) (in_below 16 (place_of i) (small (i.0 - 16384)))))
   where
     small : (n : ℕ) → n % 16 < 16
     small n = omega arith
-of_instances (key.Attach n) i e = absurd (true≢false (sym e))
-of_instances (key.Acl m n) i e = absurd (true≢false (sym e))
+of_instances (key.Attach n) i b e = absurd (true≢false (sym e))
+of_instances (key.Acl m n) i b e = absurd (true≢false (sym e))
 
 subnets_held : (u : ℕ) (o : Option LowValue) → subnets_of (key.ChainUse u) o ≡ subnets_by (use_from u o)
 subnets_held u None = refl
@@ -183,9 +190,9 @@ module _ (h : Holdings) (short : AreShort h.feed) (k : LowKey) (i : InstanceId) 
       no_path (Some p) e = let l = selected_least (paths_of h i) q p e in absurd (none (path_here p l.member l.prefix_is))
 
 -- ---- an object that is put
-own_listed : (h : Holdings) (k : LowKey) (i : InstanceId) (q : Block) (subnets : List Block) → is_of k i ≡ true → Member q (prefixes_told h ++ subnets) → Member (at_row i q) (own_rows h k subnets)
-own_listed h k i q subnets own m =
-    in_flat_map (λ (i : InstanceId). map (λ (p : Block). (i, p)) (prefixes_told h ++ subnets)) i (at_row i q) (instances_of k) (of_instances k i own)
+own_listed : (h : Holdings) (k : LowKey) (i : InstanceId) (q : Block) (subnets : List Block) → IsNumber k → is_of k i ≡ true → Member q (prefixes_told h ++ subnets) → Member (at_row i q) (own_rows h k subnets)
+own_listed h k i q subnets b own m =
+    in_flat_map (λ (i : InstanceId). map (λ (p : Block). (i, p)) (prefixes_told h ++ subnets)) i (at_row i q) (instances_of k) (of_instances k i b own)
     (in_map (λ (p : Block). (i, p)) q (prefixes_told h ++ subnets) m)
 
 more : (q : Block) (xs ys zs : List Block) → (Member q ys → Member q zs) → Member q (xs ++ ys) → Member q (xs ++ zs)
@@ -196,9 +203,48 @@ put_is h k v =
     ap as_object (get-insert key_total h.feed (Low k) (Object v) (Low k))
     ∙ ap (λ b. as_object (cond b (Some (Object v)) (get h.feed (Low k)))) (ap is_eq (tied_itself key_total (Low k)))
 
-pub put_entry : (h : Holdings) (k : LowKey) (v : LowValue) → AreShort h.feed → AreShort (with_low h (Put k v)).feed → (r : RowKey)
+-- of an instance that is not known nothing follows
+nothing_unknown : (h : Holdings) (r : RowKey) → AreShort h.feed → is_known h.feed r.instance ≡ false → nothing_stored ≡ entry_of h r
+nothing_unknown h r short unknown = λ n. record {
+  path = sym (no_path (get (table h r.instance) r.prefix) refl) n;
+  is_up_right = sym (no_up true) n;
+  is_up_left = sym (no_up false) n;
+}
+  where
+    no_path : (o : Option Path) → get (table h r.instance) r.prefix ≡ o → selected_at h r.instance r.prefix ≡ None
+    no_path None e = ap (option_map plain) e
+    no_path (Some p) e = absurd (subst (Member p) (no_paths h r.instance short unknown) (selected_least (paths_of h r.instance) r.prefix p e).member)
+
+    at_use : (b : Bool) (o : Option Use) → is_place (place_of r.instance) o ≡ false → is_up_on h (place_of r.instance) r.prefix (option_map (seen_from b) o) ≡ false
+    at_use b None e = refl
+    at_use b (Some u) e = ap (λ c. cond c (cond (list_any (same_prefix r.prefix) (subnets (seen_from b u))) (is_up h (seen_from b u) r.prefix (distance (seen_from b u) (place_of r.instance))) false) false) e
+
+    no_up : (b : Bool) → is_up_at h r.instance r.prefix b ≡ false
+    no_up b =
+        elim (is_hop r.instance) as (λ t. cond t (is_place (place_of r.instance) (held_use h.feed r.instance)) (is_some (object h.feed (key.Instance r.instance.0))) ≡ false
+        → cond t (is_up_on h (place_of r.instance) r.prefix (side_at h.feed (use_of r.instance) b)) false ≡ false) [
+          | true ↦ at_use b (held_use h.feed r.instance)
+          | false ↦ λ _. refl
+        ] unknown
+
+-- a known instance's use has a number
+known_number : (h : Holdings) (k : LowKey) (i : InstanceId) → UsesAreInRange h.feed → is_of k i ≡ true → is_known h.feed i ≡ true → IsNumber k
+known_number h (key.ChainUse u) i range own known =
+    let t = test_of (is_hop i) (use_of i == u) own in
+    at_use t.0 (eqb-true (use_of i) u t.1) (held_use h.feed i) refl (sym (ap (λ c. cond c (is_place (place_of i) (held_use h.feed i)) (is_some (object h.feed (key.Instance i.0)))) t.0) ∙ known)
+  where
+    at_use : is_hop i ≡ true → use_of i ≡ u → (o : Option Use) → held_use h.feed i ≡ o → is_place (place_of i) o ≡ true → u ≤ 3071
+    at_use is same None e f = absurd (true≢false (sym f))
+    at_use is same (Some w) e f =
+        let q = use_found h.feed (use_of i) w e in
+        subst (λ (n : ℕ). n ≤ 3071) (q.1 ∙ same) (range w q.0).0
+known_number h (key.Instance n) i range own known = tt
+known_number h (key.Attach n) i range own known = tt
+known_number h (key.Acl m n) i range own known = tt
+
+pub put_entry : (h : Holdings) (k : LowKey) (v : LowValue) → AreShort h.feed → AreShort (with_low h (Put k v)).feed → UsesAreInRange h.feed → UsesAreInRange (with_low h (Put k v)).feed → (r : RowKey)
     → (Member (at_row r.instance r.prefix) (rows_by_object h k v) → ⊥) → entry_of h r ≡ entry_of (with_low h (Put k v)) r
-put_entry h k v short_h short_g r none =
+put_entry h k v short_h short_g range_h range_g r none =
     let g = with_low h (Put k v) in
     let before = subnets_of k (object h.feed k) in
     let after = subnets_of k (Some v) in
@@ -206,9 +252,15 @@ put_entry h k v short_h short_g r none =
     let published = flat_map (rows_published h k) (held_keys h) in
     elim (is_of k r.instance) as (λ t. is_of k r.instance ≡ t → entry_of h r ≡ entry_of g r) [
       | true ↦ λ own.
-          let elsewhere : Member r.prefix (prefixes_told h ++ (before ++ after)) → ⊥ = λ m. none (in_left row (own_rows h k (before ++ after)) published (own_listed h k r.instance r.prefix (before ++ after) own m)) in
-          sym (nothing_elsewhere h short_h k r.instance r.prefix own (λ m. elsewhere (more r.prefix (prefixes_told h) before (before ++ after) (in_left r.prefix before after) m)))
-          ∙ nothing_elsewhere g short_g k r.instance r.prefix own (λ m. elsewhere (more r.prefix (prefixes_told h) (subnets_of k (object g.feed k)) (before ++ after)
-          (λ m. in_right r.prefix before after (subst (λ (o : Option LowValue). Member r.prefix (subnets_of k o)) (put_is h k v) m)) m))
+          let elsewhere : IsNumber k → Member r.prefix (prefixes_told h ++ (before ++ after)) → ⊥ = λ b m. none (in_left row (own_rows h k (before ++ after)) published (own_listed h k r.instance r.prefix (before ++ after) b own m)) in
+          sym (elim (is_known h.feed r.instance) as (λ t. is_known h.feed r.instance ≡ t → nothing_stored ≡ entry_of h r) [
+            | true ↦ λ known. nothing_elsewhere h short_h k r.instance r.prefix own (λ m. elsewhere (known_number h k r.instance range_h own known) (more r.prefix (prefixes_told h) before (before ++ after) (in_left r.prefix before after) m))
+            | false ↦ nothing_unknown h r short_h
+          ] refl)
+          ∙ elim (is_known g.feed r.instance) as (λ t. is_known g.feed r.instance ≡ t → nothing_stored ≡ entry_of g r) [
+            | true ↦ λ known. nothing_elsewhere g short_g k r.instance r.prefix own (λ m. elsewhere (known_number g k r.instance range_g own known) (more r.prefix (prefixes_told h) (subnets_of k (object g.feed k)) (before ++ after)
+                (λ m. in_right r.prefix before after (subst (λ (o : Option LowValue). Member r.prefix (subnets_of k o)) (put_is h k v) m)) m))
+            | false ↦ nothing_unknown g r short_g
+          ] refl
       | false ↦ λ other. object_entry h (Put k v) short_h short_g r other (λ m. none (in_right row (own_rows h k (before ++ after)) published m))
     ] refl

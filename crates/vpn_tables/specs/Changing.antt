@@ -1,5 +1,5 @@
 -- The rows that a change of an agent's address, or of an object, may change.
-use Rattle.std.specs.Prelude.{ℕ, List, [], ◌∷◌, ◌++◌, map, Bool, false, ◌==◌, if◌then◌else◌}
+use Rattle.std.specs.Prelude.{ℕ, List, [], ◌∷◌, ◌++◌, map, Bool, false, ◌==◌, nat_le, if◌then◌else◌}
 use Rattle.std.specs.declared.option.Option.{Option}
 use Rattle.std.specs.declared.option.Option.TheVariants.{Some, None}
 use Rattle.std.specs.List.{filter_map, flat_map}
@@ -31,10 +31,10 @@ rows_by_agent h session =
 abbrev pub object_of : InstanceId → LowKey
 object_of i = if is_hop i then key.ChainUse (use_of i) else key.Instance i.0
 
--- the instances of an object: of a use as many places as one may have
+-- the instances of an object: of a use as many places as one may have. There are 3072 numbers of uses
 abbrev pub instances_of : LowKey → List InstanceId
 instances_of (key.Instance n) = record { 0 = n } ∷ []
-instances_of (key.ChainUse u) = map (hop_instance_of u) (below 16)
+instances_of (key.ChainUse u) = if nat_le u 3071 then map (hop_instance_of u) (below 16) else []
 instances_of _ = []
 
 abbrev pub is_of : LowKey → InstanceId → Bool

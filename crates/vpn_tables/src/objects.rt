@@ -31,15 +31,23 @@ type Row = (InstanceId, Prefix);
 fn instances_of(alloc: Global, of: &LowKey) -> Result<Vec<InstanceId>, NoMemory>
     ensures { IfOk result (λ instances. instances.items ≡ instances_of of.now) }
 {
-    let mut instances = Vec::new(alloc);
     match *of {
-        LowKey::Instance(number) => instances.push(InstanceId(number))?,
-        LowKey::ChainUse(number) => {
-            for place in 0..16 {
-                instances.push(hop_instance(number, place))?;
-            }
-        }
-        _ => {}
+        LowKey::Instance(number) => Ok(vec![in alloc; InstanceId(number)]?),
+        LowKey::ChainUse(number) => places_of(alloc, number),
+        _ => Ok(Vec::new(alloc)),
+    }
+}
+
+/// Those of a use.
+fn places_of(alloc: Global, number: u16) -> Result<Vec<InstanceId>, NoMemory>
+    ensures { IfOk result (λ instances. instances.items ≡ instances_of (key.ChainUse number)) }
+{
+    let mut instances = Vec::new(alloc);
+    if number > 3071 {
+        return Ok(instances);
+    }
+    for place in 0..16u8 {
+        instances.push(hop_instance(number, place))?;
     }
     Ok(instances)
 }
@@ -192,11 +200,11 @@ fn put_object<L: Ledger>(
     let mut steps = Steps::<L>::new(blank);
     let touched = touched_by_object(alloc, held, &of, &value)?;
     let keys = touched.as_slice();
-    held.uses_are_short();
+    held.uses_are_in_range();
     make_places(stored, keys)?;
     match held.set_low(Delta::Put(of, value)) {
         Ok(()) => {
-            held.uses_are_short();
+            held.uses_are_in_range();
             refresh(stored, held, keys, &mut steps);
             Ok(())
         }
