@@ -75,7 +75,7 @@ fn change_on<L: Ledger>(
     address: Addr,
     blank: Blank,
 ) -> Result<(), NoMemory>
-    requires { AreStored stored.old held.old }
+    requires stored { AreStored stored.old held.old }
     requires name { blank.name ≡ L.name }
     requires parts { blank.parts ≡ L.parts }
     requires some { 0 < blank.parts }

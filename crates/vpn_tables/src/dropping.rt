@@ -1,30 +1,21 @@
 //! What is stored is made anew in place where less is held. It takes no memory.
-ghost use Rattle.std.specs.Prelude.{◌≡◌, if◌then◌else◌, is_some};
+ghost use Rattle.std.specs.Prelude.{◌≡◌, false, if◌then◌else◌, is_some};
 ghost use Rattle.std.specs.BTreeMap as tree;
-ghost use Rattle.std.specs.Option.{option_map};
 ghost use Rattle.vpn_holdings.specs.Changes.{without};
 ghost use Rattle.vpn_tables.specs.Stored.{AreStored, entry_of, nothing_stored, row_order, stored_at};
 ghost use Rattle.vpn_tables.specs.declared.stored.RowKey.{RowKey as RowKeyOf};
 
 use crate::following::follows;
-use crate::stored::Stored;
+use crate::stored::{Entry, RowKey, Stored};
 use vpn_holdings::VpnHoldings;
 
-/// Makes what is stored in each place anew.
-fn refresh_places(stored: &mut Stored, held: &VpnHoldings)
-    ensures { (k : RowKeyOf) → tree.get row_order stored.new k
-        ≡ option_map (λ _. entry_of held.now k) (tree.get row_order stored.old k) }
+/// Makes what is stored in a place anew. Says whether anything is.
+fn refresh_place(held: &VpnHoldings, key: &RowKey, entry: &mut Entry) -> bool
+    ensures entry { entry.new ≡ entry_of held.now key.now }
+    ensures nothing { result ≡ false → entry.new ≡ nothing_stored }
 {
-    for (key, entry) in stored.iter_mut() {
-        *entry = follows(held, *key);
-    }
-}
-
-/// Drops the places in which nothing is stored.
-fn drop_all_empty(stored: &mut Stored)
-    ensures { (k : RowKeyOf) → stored_at stored.new k ≡ stored_at stored.old k }
-{
-    stored.retain(|_, entry| !entry.is_nothing());
+    *entry = follows(held, *key);
+    !entry.is_nothing()
 }
 
 /// Makes what is stored anew, where there is a place for it.
@@ -32,8 +23,7 @@ pub(crate) fn refresh_stored(stored: &mut Stored, held: &VpnHoldings)
     ensures { (k : RowKeyOf) → stored_at stored.new k
         ≡ (if is_some (tree.get row_order stored.old k) then entry_of held.now k else nothing_stored) }
 {
-    refresh_places(stored, held);
-    drop_all_empty(stored);
+    stored.retain(|key, entry| refresh_place(held, key, entry));
 }
 
 /// Empties what a session gave.
