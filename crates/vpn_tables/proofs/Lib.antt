@@ -1,5 +1,6 @@
 -- Lemmas, in the order in which they stand on each other.
 mod Order
+mod Places
 mod Keeping
 mod UpStays
 mod Touching
@@ -8,6 +9,7 @@ mod Less
 mod Alike
 mod Dropped
 mod Nothing
+mod Emptied
 mod AgentMoved
 mod ObjectMoved
 mod Possible
