@@ -47,6 +47,13 @@ pub record Publishes (a : Told) (j : InstanceId) (q : Block) : Type 0 where
   pub label : LabelNo
   pub told : get a.map (Publish j q) ≡ Some (Label label)
 
+-- an agent of the session publishes this
+pub record MovesBy (agents : List Told) (session : ℕ) (j : InstanceId) (q : Block) : Type 0 where
+  pub agent : Told
+  pub held : Member agent agents
+  pub session_is : agent.session ≡ session
+  pub publishes : Publishes agent j q
+
 -- what a change of paths with a target touches, of a row
 pub imported_touched : (h : Holdings) (j i : InstanceId) (q : Block) → AreShort h.feed → imports_one h (target_of h.asn j ∷ []) i ≡ true → Member (at_row i q) (touched_rows h (target_of h.asn j ∷ []) q)
 imported_touched h j i q short e =
@@ -72,12 +79,8 @@ module _ (h : Holdings) (session : ℕ) (address : Addr) where
   abbrev with_address : Told → Told
   with_address a = record a { address = address }
 
-  -- an agent of the session publishes this
-  pub record Moves (j : InstanceId) (q : Block) : Type 0 where
-    pub agent : Told
-    pub held : Member agent h.agents
-    pub session_is : agent.session ≡ session
-    pub publishes : Publishes agent j q
+  abbrev Moves : InstanceId → Block → Type 0
+  Moves = MovesBy h.agents session
 
   -- ---- agents
   named_member : (a : Told) (ts : List Told) → Member a ts → Member a (named ts session address) ⊎ (a.session ≡ session)
@@ -112,7 +115,7 @@ module _ (h : Holdings) (session : ℕ) (address : Addr) where
           | inr n ↦ elim (named_back a ts n) as (λ _. Member a (b ∷ ts) ⊎ (((c : Told) × Member c (b ∷ ts) × ((c.session ≡ session) × (c.map ≡ a.map))) ⊎ (a.map ≡ empty))) [
             | inl o ↦ inl (inr o)
             | inr o ↦ elim o as (λ _. Member a (b ∷ ts) ⊎ (((c : Told) × Member c (b ∷ ts) × ((c.session ≡ session) × (c.map ≡ a.map))) ⊎ (a.map ≡ empty))) [
-              | inl c ↦ inr (inl (c.0, (inr c.1.0, c.1.1)))
+              | inl c ↦ inr (inl (c.0, inr c.1, c.2))
               | inr e ↦ inr (inr e)
             ]
           ]
@@ -121,7 +124,7 @@ module _ (h : Holdings) (session : ℕ) (address : Addr) where
             elim (b.session == session) as (λ t. (b.session == session) ≡ t → Member a (cond t (with_address b ∷ ts) (with_nothing session address ∷ b ∷ ts))
             → Member a (b ∷ ts) ⊎ (((c : Told) × Member c (b ∷ ts) × ((c.session ≡ session) × (c.map ≡ a.map))) ⊎ (a.map ≡ empty))) [
               | true ↦ λ is m. elim m as (λ _. Member a (b ∷ ts) ⊎ (((c : Told) × Member c (b ∷ ts) × ((c.session ≡ session) × (c.map ≡ a.map))) ⊎ (a.map ≡ empty))) [
-                | inl e ↦ inr (inl (b, (inl refl, (eqb-true b.session session is, ap (λ (x : Told). x.map) e))))
+                | inl e ↦ inr (inl (b, inl refl, (eqb-true b.session session is, ap (λ (x : Told). x.map) e)))
                 | inr n ↦ inl (inr n)
               ]
               | false ↦ λ is m. elim m as (λ _. Member a (b ∷ ts) ⊎ (((c : Told) × Member c (b ∷ ts) × ((c.session ≡ session) × (c.map ≡ a.map))) ⊎ (a.map ≡ empty))) [
@@ -149,7 +152,7 @@ module _ (h : Holdings) (session : ℕ) (address : Addr) where
       elim (nat_lt b.session session) as (λ t. (published_in (b ∷ ts) c ≡ published_in (cond t (b ∷ named ts session address) (cond (b.session == session) (with_address b ∷ ts) (with_nothing session address ∷ b ∷ ts))) c) ⊎ Found c (b ∷ ts)) [
         | true ↦ elim (named_publisher c ts) as (λ _. (published_in (b ∷ ts) c ≡ published_in (b ∷ named ts session address) c) ⊎ Found c (b ∷ ts)) [
           | inl e ↦ inl (from_first c b ts (named ts session address) e)
-          | inr f ↦ inr (f.0, (inr f.1.0, f.1.1))
+          | inr f ↦ inr (f.0, inr f.1, f.2)
         ]
         | false ↦
             elim (b.session == session) as (λ t. (b.session == session) ≡ t → (published_in (b ∷ ts) c ≡ published_in (cond t (with_address b ∷ ts) (with_nothing session address ∷ b ∷ ts)) c) ⊎ Found c (b ∷ ts)) [
@@ -159,7 +162,7 @@ module _ (h : Holdings) (session : ℕ) (address : Addr) where
       ]
     where
       at_agent : b.session ≡ session → (o : Option LabelNo) → published_by b c ≡ o → (published_in (b ∷ ts) c ≡ published_in (with_address b ∷ ts) c) ⊎ Found c (b ∷ ts)
-      at_agent is (Some l) e = inr (b, (inl refl, (is, record { label = l; told = label_is (get b.map (Publish (circuit_instance_of c) (host_prefix (circuit_address_of c).0))) l e })))
+      at_agent is (Some l) e = inr (b, inl refl, (is, record { label = l; told = label_is (get b.map (Publish (circuit_instance_of c) (host_prefix (circuit_address_of c).0))) l e }))
       at_agent is None e =
           inl (ap (λ (o : Option LabelNo). elim o [ Some label ↦ Some (b.address, label) | None ↦ published_in ts c ]) e
           ∙ sym (ap (λ (o : Option LabelNo). elim o [ Some label ↦ Some (address, label) | None ↦ published_in ts c ]) e))
@@ -173,14 +176,14 @@ module _ (h : Holdings) (session : ℕ) (address : Addr) where
         let r = own_route_from h p m in
         elim (named_member r.agent h.agents r.told) as (λ _. Member p (own_paths later) ⊎ ((j : InstanceId) × (p.targets ≡ target_of h.asn j ∷ []) × Moves j p.prefix)) [
           | inl n ↦ inl (own_route_in later p (record { agent = r.agent; instance = r.instance; told = n; publishes = r.publishes; known = r.known; rd = r.rd; next_hop = r.next_hop; targets = r.targets; session = r.session }))
-          | inr e ↦ inr (r.instance, (r.targets, record { agent = r.agent; held = r.told; session_is = e; publishes = record { label = p.label; told = r.publishes } }))
+          | inr e ↦ inr (r.instance, r.targets, record { agent = r.agent; held = r.told; session_is = e; publishes = record { label = p.label; told = r.publishes } })
         ];
     peers = λ p m. m;
     held = λ s m d w o. m;
     along = λ s m d e w v o. refl;
     publishers = λ c. elim (named_publisher c h.agents) as (λ _. (publisher h c ≡ publisher later c) ⊎ ((q : Block) × Moves (circuit_instance_of c) q)) [
       | inl e ↦ inl e
-      | inr f ↦ inr (host_prefix (circuit_address_of c).0, record { agent = f.0; held = f.1.0; session_is = f.1.1.0; publishes = f.1.1.1 })
+      | inr f ↦ inr (host_prefix (circuit_address_of c).0, record { agent = f.0; held = f.1; session_is = f.2.0; publishes = f.2.1 })
     ];
   }
 
@@ -193,7 +196,7 @@ module _ (h : Holdings) (session : ℕ) (address : Addr) where
         elim (named_back r.agent h.agents r.told) as (λ _. Member p (own_paths h) ⊎ ((j : InstanceId) × (p.targets ≡ target_of h.asn j ∷ []) × Moves j p.prefix)) [
           | inl n ↦ inl (own_route_in h p (record { agent = r.agent; instance = r.instance; told = n; publishes = r.publishes; known = r.known; rd = r.rd; next_hop = r.next_hop; targets = r.targets; session = r.session }))
           | inr o ↦ elim o as (λ _. Member p (own_paths h) ⊎ ((j : InstanceId) × (p.targets ≡ target_of h.asn j ∷ []) × Moves j p.prefix)) [
-            | inl b ↦ inr (r.instance, (r.targets, record { agent = b.0; held = b.1.0; session_is = b.1.1.0; publishes = record { label = p.label; told = ap (λ (x : Map). get x (Publish r.instance p.prefix)) b.1.1.1 ∙ r.publishes } }))
+            | inl b ↦ inr (r.instance, r.targets, record { agent = b.0; held = b.1; session_is = b.2.0; publishes = record { label = p.label; told = ap (λ (x : Map). get x (Publish r.instance p.prefix)) b.2.1 ∙ r.publishes } })
             | inr e ↦ absurd (none_some (Label p.label) (sym (ap (λ (x : Map). get x (Publish r.instance p.prefix)) e ∙ get-empty key_cmp (Publish r.instance p.prefix)) ∙ r.publishes))
           ]
         ];
@@ -202,7 +205,7 @@ module _ (h : Holdings) (session : ℕ) (address : Addr) where
     along = λ s m d e w v o. refl;
     publishers = λ c. elim (named_publisher c h.agents) as (λ _. (publisher later c ≡ publisher h c) ⊎ ((q : Block) × Moves (circuit_instance_of c) q)) [
       | inl e ↦ inl (sym e)
-      | inr f ↦ inr (host_prefix (circuit_address_of c).0, record { agent = f.0; held = f.1.0; session_is = f.1.1.0; publishes = f.1.1.1 })
+      | inr f ↦ inr (host_prefix (circuit_address_of c).0, record { agent = f.0; held = f.1; session_is = f.2.0; publishes = f.2.1 })
     ];
   }
 

@@ -90,7 +90,7 @@ module _ (h g : Holdings) (own : InstanceId → Bool) (Moves : InstanceId → Bl
       (elim (in_either p (own_paths h) (peer_paths h) f.0) as (λ _. Member p (own_paths g ++ peer_paths g)) [
         | inl o ↦ elim (m.paths p o) as (λ _. Member p (own_paths g ++ peer_paths g)) [
           | inl t ↦ in_left p (own_paths g) (peer_paths g) t
-          | inr t ↦ absurd (true≢false (sym (ap (λ (ts : List Target). list_any (λ (t : Target). list_any (λ (u : Target). t.0 == u.0) (wanted i)) ts) (sym t.1.0) ∙ f.1) ∙ clean t.0 t.1.1))
+          | inr t ↦ absurd (true≢false (sym (ap (λ (ts : List Target). list_any (λ (t : Target). list_any (λ (u : Target). t.0 == u.0) (wanted i)) ts) (sym t.1) ∙ f.1) ∙ clean t.0 t.2))
         ]
         | inr o ↦ in_right p (own_paths g) (peer_paths g) (m.peers p o)
       ]) (ap (λ (w : List Target). has_target w p) (wanted_same i other) ∙ f.1)
@@ -121,7 +121,7 @@ module _ (h g : Holdings) (own : InstanceId → Bool) (Moves : InstanceId → Bl
     within_there : (d : ℕ) (q : Block) → d ≤ s.chain.services → has_path_within h (hop_at s d) q ≡ true → has_path_within g (hop_at s d) q ≡ true
     within_there d q w e =
         let p = from_any (λ (p : Path). is_inside p.prefix q) (received h (hop_at s d)) e in
-        any_in (λ (p : Path). is_inside p.prefix q) p.0 (received g (hop_at s d)) (received_there (hop_at s d) (others d w) p.0 (λ j mv. untouched j p.0.prefix mv d w) p.1.0) p.1.1
+        any_in (λ (p : Path). is_inside p.prefix q) p.0 (received g (hop_at s d)) (received_there (hop_at s d) (others d w) p.0 (λ j mv. untouched j p.0.prefix mv d w) p.1) p.2
 
     pub up_there : (q : Block) (d : ℕ) → d ≤ s.chain.services → is_up h s q d ≡ true → is_up g s q d ≡ true
     up_there q zero w e = within_there zero q w e
@@ -252,8 +252,8 @@ at_most k j n =
 placed : (s : Side) (n : InstanceId) → Member n (hops s.chain) → (d : ℕ) × (d ≤ s.chain.services) × (hop_at s d ≡ n)
 placed s n m =
     let f = from_map (hop s.chain) n (below s.chain.services ++ s.chain.services ∷ []) m in
-    let w = at_most s.chain.services f.0 f.1.0 in
-    (distance s f.0, (no_farther s f.0 w, ap (hop s.chain) (back s.is_right f.0 w) ∙ f.1.1))
+    let w = at_most s.chain.services f.0 f.1 in
+    (distance s f.0, no_farther s f.0 w, ap (hop s.chain) (back s.is_right f.0 w) ∙ f.2)
   where
     again : (k j : ℕ) → j ≤ k → k - (k - j) ≡ j
     again k j w = omega (arith, w)
@@ -265,8 +265,8 @@ placed s n m =
 row_placed : (s : Side) (i : InstanceId) (q : Block) → Member (at_row i q) (rows_at_use s.chain) → Member i (hops s.chain)
 row_placed s i q m =
     let f = from_flat_map (λ (i : InstanceId). map (λ (subnet : Block). (i, subnet)) (s.chain.left_subnets ++ s.chain.right_subnets)) (at_row i q) (hops s.chain) m in
-    let e = from_map (λ (subnet : Block). (f.0, subnet)) (at_row i q) (s.chain.left_subnets ++ s.chain.right_subnets) f.1.1 in
-    subst (λ (j : InstanceId). Member j (hops s.chain)) (ap (λ (r : InstanceId × Block). r.0) e.1.1) f.1.0
+    let e = from_map (λ (subnet : Block). (f.0, subnet)) (at_row i q) (s.chain.left_subnets ++ s.chain.right_subnets) f.2 in
+    subst (λ (j : InstanceId). Member j (hops s.chain)) (ap (λ (r : InstanceId × Block). r.0) e.2) f.1
 
 pub clean_too : (h g : Holdings) (own : InstanceId → Bool) (Moves : InstanceId → Block → Type 0) → IsMoved h g own Moves → IsMoved g h own Moves → (i : InstanceId) (q : Block)
     → IsClean h own Moves i q → IsClean g own Moves i q
@@ -275,9 +275,9 @@ clean_too h g own Moves there back i q clean = record {
   row = λ j mv. imports_same j i clean.other ∙ clean.row j mv;
   of_use = λ s n r j x mv.
       let at = placed s i (row_placed s i q r) in
-      let others : (e : ℕ) → e ≤ s.chain.services → own (hop_at s e) ≡ false = λ e w. back.along s n at.0 e at.1.0 w (ap own at.1.1 ∙ clean.other) in
-      all_same j (hops s.chain) (λ x p. let f = placed s x p in ap own (sym f.1.1) ∙ others f.0 f.1.0)
-      ∙ clean.of_use s (back.held s n at.0 at.1.0 (others at.0 at.1.0)) r j x mv;
+      let others : (e : ℕ) → e ≤ s.chain.services → own (hop_at s e) ≡ false = λ e w. back.along s n at.0 e at.1 w (ap own at.2 ∙ clean.other) in
+      all_same j (hops s.chain) (λ x p. let f = placed s x p in ap own (sym f.2) ∙ others f.0 f.1)
+      ∙ clean.of_use s (back.held s n at.0 at.1 (others at.0 at.1)) r j x mv;
 }
   where
     imports_same : (j n : InstanceId) → own n ≡ false → imports_one g (target_of g.asn j ∷ []) n ≡ imports_one h (target_of h.asn j ∷ []) n

@@ -123,9 +123,9 @@ session_less h place = record {
     peers : (p : Path) → Member p (peer_paths (without h (suc place))) → Member p (peer_paths h)
     peers p m =
         let f = from_flat_map (λ (x : ℕ × Map). filter_map (λ e. peer_path x.0 e.0 e.1) (entries x.1)) p (enumerate_from 1 (emptied_at h.peers place)) m in
-        elim (dropped_peer f.0 1 h.peers place f.1.0) as (λ _. Member p (peer_paths h)) [
-          | inl n ↦ in_flat_map (λ (x : ℕ × Map). filter_map (λ e. peer_path x.0 e.0 e.1) (entries x.1)) f.0 p (enumerate_from 1 h.peers) n f.1.1
-          | inr e ↦ absurd (subst (λ (es : List (Key × Value)). Member p (filter_map (λ e. peer_path f.0.0 e.0 e.1) es)) (ap entries e ∙ entries-empty {V = Value} key_cmp) f.1.1)
+        elim (dropped_peer f.0 1 h.peers place f.1) as (λ _. Member p (peer_paths h)) [
+          | inl n ↦ in_flat_map (λ (x : ℕ × Map). filter_map (λ e. peer_path x.0 e.0 e.1) (entries x.1)) f.0 p (enumerate_from 1 h.peers) n f.2
+          | inr e ↦ absurd (subst (λ (es : List (Key × Value)). Member p (filter_map (λ e. peer_path f.0.0 e.0 e.1) es)) (ap entries e ∙ entries-empty {V = Value} key_cmp) f.2)
         ]
 
 -- ---- an object

@@ -50,13 +50,13 @@ module _ (g h : Holdings) (less : IsLess g h) where
   target_more : (i : InstanceId) (p : Path) → has_target (map (target_of g.asn) (imports g.feed i)) p ≡ true → has_target (map (target_of h.asn) (imports h.feed i)) p ≡ true
   target_more i p e =
       let t = from_any (λ (t : Target). list_any (λ (u : Target). t.0 == u.0) (map (target_of g.asn) (imports g.feed i))) p.targets e in
-      let u = from_any (λ (u : Target). t.0.0 == u.0) (map (target_of g.asn) (imports g.feed i)) t.1.1 in
-      let n = from_map (target_of g.asn) u.0 (imports g.feed i) u.1.0 in
+      let u = from_any (λ (u : Target). t.0.0 == u.0) (map (target_of g.asn) (imports g.feed i)) t.2 in
+      let n = from_map (target_of g.asn) u.0 (imports g.feed i) u.1 in
       let there : Member u.0 (map (target_of h.asn) (imports h.feed i)) =
-      subst (λ (x : Target). Member x (map (target_of h.asn) (imports h.feed i))) (ap (λ a. target_of a n.0) (sym less.asn) ∙ n.1.1)
-      (in_map (target_of h.asn) n.0 (imports h.feed i) (less.imported i n.0 n.1.0)) in
-      any_in (λ (t : Target). list_any (λ (u : Target). t.0 == u.0) (map (target_of h.asn) (imports h.feed i))) t.0 p.targets t.1.0
-      (any_in (λ (u : Target). t.0.0 == u.0) u.0 (map (target_of h.asn) (imports h.feed i)) there u.1.1)
+      subst (λ (x : Target). Member x (map (target_of h.asn) (imports h.feed i))) (ap (λ a. target_of a n.0) (sym less.asn) ∙ n.2)
+      (in_map (target_of h.asn) n.0 (imports h.feed i) (less.imported i n.0 n.1)) in
+      any_in (λ (t : Target). list_any (λ (u : Target). t.0 == u.0) (map (target_of h.asn) (imports h.feed i))) t.0 p.targets t.1
+      (any_in (λ (u : Target). t.0.0 == u.0) u.0 (map (target_of h.asn) (imports h.feed i)) there u.2)
 
   pub received_less : (i : InstanceId) (p : Path) → Member p (received g i) → Member p (received h i)
   received_less i p m =
@@ -71,7 +71,7 @@ module _ (g h : Holdings) (less : IsLess g h) where
   within_less : (i : InstanceId) (q : Block) → has_path_within g i q ≡ true → has_path_within h i q ≡ true
   within_less i q e =
       let p = from_any (λ (p : Path). is_inside p.prefix q) (received g i) e in
-      any_in (λ (p : Path). is_inside p.prefix q) p.0 (received h i) (received_less i p.0 p.1.0) p.1.1
+      any_in (λ (p : Path). is_inside p.prefix q) p.0 (received h i) (received_less i p.0 p.1) p.2
 
   pub up_less : (s : Side) (q : Block) (d : ℕ) → is_up g s q d ≡ true → is_up h s q d ≡ true
   up_less s q zero e = within_less (hop_at s zero) q e
@@ -135,22 +135,20 @@ module _ (g h : Holdings) (less : IsLess g h) where
         targets = refl;
         session = refl;
       } in
-      (r, (reoriginated_in h r is, (refl, ap (λ a. target_of a (hop_at l.side (suc l.depth)) ∷ []) (sym less.asn) ∙ sym l.targets)))
+      (r, reoriginated_in h r is, (refl, ap (λ a. target_of a (hop_at l.side (suc l.depth)) ∷ []) (sym less.asn) ∙ sym l.targets))
 
   pub beside : (i : InstanceId) (q : Block) → Beside h g i q
   beside i q p m e =
       elim (in_either p (received g i) (filter (has_target (target_of g.asn i ∷ [])) (reoriginated_paths g)) m) as (λ _. (r : Path) × Member r (paths_of h i) × (r.prefix ≡ q)) [
-        | inl o ↦ (p, (in_left p (received h i) (filter (has_target (target_of h.asn i ∷ [])) (reoriginated_paths h)) (received_less i p o), e))
+        | inl o ↦ (p, in_left p (received h i) (filter (has_target (target_of h.asn i ∷ [])) (reoriginated_paths h)) (received_less i p o), e)
         | inr o ↦
             let f = from_filter (has_target (target_of g.asn i ∷ [])) p (reoriginated_paths g) o in
             let l = led_less p f.0 in (
               l.0,
-              (
-                in_right l.0 (received h i) (filter (has_target (target_of h.asn i ∷ [])) (reoriginated_paths h)) (in_filter (has_target (target_of h.asn i ∷ [])) l.0 (reoriginated_paths h) l.1.0
-                    (ap (λ (ts : List Target). list_any (λ (t : Target). list_any (λ (u : Target). t.0 == u.0) (target_of h.asn i ∷ [])) ts) l.1.1.1
-                    ∙ ap (λ a. has_target (target_of a i ∷ []) p) (sym less.asn) ∙ f.1)),
-                l.1.1.0 ∙ e,
-              ),
+              in_right l.0 (received h i) (filter (has_target (target_of h.asn i ∷ [])) (reoriginated_paths h)) (in_filter (has_target (target_of h.asn i ∷ [])) l.0 (reoriginated_paths h) l.1
+                  (ap (λ (ts : List Target). list_any (λ (t : Target). list_any (λ (u : Target). t.0 == u.0) (target_of h.asn i ∷ [])) ts) l.2.1
+                  ∙ ap (λ a. has_target (target_of a i ∷ []) p) (sym less.asn) ∙ f.1)),
+              l.2.0 ∙ e,
             )
       ]
 

@@ -105,7 +105,7 @@ module _ (h g : Holdings) (k : LowKey) (asn : g.asn ≡ h.asn) (peers : g.peers 
     paths = λ p m.
         let r = own_route_from h p m in
         elim (is_of k r.instance) as (λ t. is_of k r.instance ≡ t → Member p (own_paths g) ⊎ ((j : InstanceId) × (p.targets ≡ target_of h.asn j ∷ []) × Moves k h.agents j p.prefix)) [
-          | true ↦ λ is. inr (r.instance, (r.targets, record { of_object = is; agent = r.agent; held = r.told; publishes = record { label = p.label; told = r.publishes } }))
+          | true ↦ λ is. inr (r.instance, r.targets, record { of_object = is; agent = r.agent; held = r.told; publishes = record { label = p.label; told = r.publishes } })
           | false ↦ λ none. inl (own_route_in g p (record {
             agent = r.agent;
             instance = r.instance;

@@ -72,10 +72,10 @@ told_prefix h p m =
           (member_get key_total key_exact r.agent.map (Publish r.instance p.prefix) (Label p.label) r.publishes) refl))
       | inr o ↦
           let x = from_flat_map (λ (x : ℕ × Map). filter_map (λ e. peer_path x.0 e.0 e.1) (entries x.1)) p (enumerate_from 1 h.peers) o in
-          let e = from_filter_map (λ (e : Key × Value). peer_path x.0.0 e.0 e.1) p (entries x.0.1) x.1.1 in
+          let e = from_filter_map (λ (e : Key × Value). peer_path x.0.0 e.0 e.1) p (entries x.0.1) x.2 in
           in_right p.prefix (flat_map (λ a. prefixes_in a.map) h.agents) (flat_map prefixes_in h.peers)
-          (in_flat_map prefixes_in x.0.1 p.prefix h.peers (enumerated x.0 1 h.peers x.1.0)
-          (in_filter_map (λ (e : Key × Value). prefix_in e.0) e.0 p.prefix (entries x.0.1) e.1.0 (peer_prefix x.0.0 e.0.0 e.0.1 p e.1.1)))
+          (in_flat_map prefixes_in x.0.1 p.prefix h.peers (enumerated x.0 1 h.peers x.1)
+          (in_filter_map (λ (e : Key × Value). prefix_in e.0) e.0 p.prefix (entries x.0.1) e.1 (peer_prefix x.0.0 e.0.0 e.0.1 p e.2)))
     ]
 
 -- ---- the instances of an object
@@ -166,7 +166,7 @@ module _ (h : Holdings) (short : AreShort h.feed) (k : LowKey) (i : InstanceId) 
           at_subnet true c listed e =
               let parts = side_parts h.feed (use_of i) b s at in
               let f = from_any (same_prefix q) (subnets s) listed in
-              of_side s parts.0 is parts.1.0 (subst (λ (x : Block). Member x (subnets s)) (sym (prefix_same q f.0 f.1.1)) f.1.0)
+              of_side s parts.0 is parts.1.0 (subst (λ (x : Block). Member x (subnets s)) (sym (prefix_same q f.0 f.2)) f.1)
           at_subnet false c listed e = absurd (true≢false (sym e))
 
           at_place : (t : Bool) → cond t (cond (list_any (same_prefix q) (subnets s)) _ false) false ≡ true → Here

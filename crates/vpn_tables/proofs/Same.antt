@@ -26,8 +26,8 @@ none_found h g i q beside none None e = refl
 none_found h g i q beside none (Some p) e =
     let l = selected_least (paths_of g i) q p e in
     let r = beside p l.member l.prefix_is in
-    let f = selected_found (paths_of h i) r.0 r.1.0 in
-    absurd (none_some f.0 (sym none ∙ subst (λ (x : Block). get (selected (paths_of h i)) x ≡ Some f.0) r.1.1 f.1))
+    let f = selected_found (paths_of h i) r.0 r.1 in
+    absurd (none_some f.0 (sym none ∙ subst (λ (x : Block). get (selected (paths_of h i)) x ≡ Some f.0) r.2 f.1))
 
 nothing_plain : (o : Option Path) → option_map plain o ≡ None → o ≡ None
 nothing_plain None e = refl
@@ -41,7 +41,7 @@ abbrev pub Within : Holdings → Holdings → InstanceId → Block → Type 0
 Within h g i q = (p : Path) → Member p (paths_of g i) → p.prefix ≡ q → Member p (paths_of h i)
 
 within_beside : (h g : Holdings) (i : InstanceId) (q : Block) → Within h g i q → Beside h g i q
-within_beside h g i q w = λ p m e. (p, (w p m e, e))
+within_beside h g i q w = λ p m e. (p, w p m e, e)
 
 some_found : (h g : Holdings) (i : InstanceId) (q : Block) → Within h g i q → Within g h i q → (p : Path) → get (table h i) q ≡ Some p → option_map plain (get (table g i) q) ≡ Some (plain p)
 some_found h g i q w v p e =

@@ -50,10 +50,10 @@ at_use s i q is number within listed =
     let at : hop s.chain (place_of i) ≡ i = λ x. record { 0 = hop_number i.0 s.chain.number is number x } in
     let there : Member i (hops s.chain) = subst (λ (j : InstanceId). Member j (hops s.chain)) at (in_map (hop s.chain) (place_of i) (below k ++ k ∷ []) (in_places k (place_of i) within)) in
     let found = from_any (same_prefix q) (subnets s) listed in
-    let same : q ≡ found.0 = prefix_same q found.0 found.1.1 in
+    let same : q ≡ found.0 = prefix_same q found.0 found.2 in
     in_flat_map (λ (i : InstanceId). map (λ (subnet : Block). (i, subnet)) (s.chain.left_subnets ++ s.chain.right_subnets)) i (at_row i q) (hops s.chain) there
     (in_map (λ (subnet : Block). (i, subnet)) q (s.chain.left_subnets ++ s.chain.right_subnets)
-    (subst (λ (x : Block). Member x (s.chain.left_subnets ++ s.chain.right_subnets)) (sym same) (of_side s.is_right found.0 found.1.0)))
+    (subst (λ (x : Block). Member x (s.chain.left_subnets ++ s.chain.right_subnets)) (sym same) (of_side s.is_right found.0 found.1)))
   where
     of_side : (b : Bool) (x : Block) → Member x (cond b s.chain.right_subnets s.chain.left_subnets) → Member x (s.chain.left_subnets ++ s.chain.right_subnets)
     of_side true x m = in_right x s.chain.left_subnets s.chain.right_subnets m
