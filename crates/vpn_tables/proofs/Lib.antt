@@ -13,6 +13,7 @@ mod Emptied
 mod AgentMoved
 mod ObjectMoved
 mod Possible
+mod TableListed
 -- What is passed on of `vpn_holdings`, so that the crates above need not list it.
 pub use Rattle.vpn_holdings.proofs.AgentsIndexed
 pub use Rattle.vpn_holdings.proofs.Choosing

@@ -9,9 +9,9 @@ use Rattle.std.specs.Ordering.{is_eq}
 use Rattle.std.proofs.Common.{refl, sym, ◌∙◌, ap, subst, rules}
 use Rattle.ov_types.specs.Keys.{row_key_cmp}
 use Rattle.ov_types.specs.declared.keys.DownKey.TheVariants as Down
-use Rattle.vpn_holdings.specs.NodeModel.Keys.{Key, Low, Vpn, Row, Publish, Subscribe, key_cmp}
-use Rattle.vpn_holdings.proofs.NodeModel.Images as images
-use Rattle.vpn_holdings.proofs.NodeModel.Orders.{key_exact, key_total}
+use Rattle.node_model.specs.Keys.{Key, Low, Vpn, Row, Publish, Subscribe, key_cmp}
+use Rattle.node_model.proofs.Images as images
+use Rattle.node_model.proofs.Orders.{key_exact, key_total}
 use Rattle.vpn_tables.specs.Stored.{is_row, row_order}
 use Rattle.vpn_tables.specs.declared.rows.RowKey.{RowKey}
 
