@@ -85,7 +85,7 @@ module _ (h : Holdings) (i : InstanceId) (q : Block) where
       let not_better : is_better x (plain found.0) ≡ false = ap (λ x. is_better x (plain found.0)) (sym f.2) ∙ l.least_of p g.0 (prefix_same p.prefix q g.1) in
       ap (option_map plain) is ∙ ap Some (one_path (plain found.0) x (best (plain found.0) (there found.0 l.member l.prefix_is)) not_better)
 
-shown_plain : (o : Option model.Path) → option_map table_row o ≡ option_map shown (option_map plain o)
+pub shown_plain : (o : Option model.Path) → option_map table_row o ≡ option_map shown (option_map plain o)
 shown_plain None = refl
 shown_plain (Some p) = refl
 
