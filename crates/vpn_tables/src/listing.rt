@@ -1,7 +1,7 @@
 //! Tables, from what is stored.
-ghost use Rattle.std.specs.Prelude.{◌≡◌, ◌++◌, ◌==◌, [], IfOk, OnOk};
+ghost use Rattle.std.specs.Prelude.{◌≡◌, ◌++◌, [], IfOk, OnOk};
 ghost use Rattle.std.specs.BTreeMap.{IsOrdered};
-ghost use Rattle.std.specs.List.{cons_option, filter, filter_map};
+ghost use Rattle.std.specs.List.{cons_option, filter_map};
 ghost use Rattle.std.specs.Option.{option_map};
 ghost use Rattle.vpn_holdings.specs.At.{shown};
 ghost use Rattle.vpn_tables.specs.Listed.{row_in};
@@ -39,9 +39,9 @@ fn first_of(instance: InstanceId) -> RowKey
     RowKey { instance, prefix }
 }
 
-/// What is stored of an instance.
+/// What is stored of an instance, among it all of its rows.
 fn entries_of(stored: &Stored, i: InstanceId) -> Range<'_, RowKey, Entry>
-    ensures entries { result ≡ filter (λ e. e.0.instance.0 == i.0) stored.now.entries }
+    ensures rows { filter_map (row_in i) result ≡ filter_map (row_in i) stored.now.entries }
     ensures ordered { IsOrdered row_order stored.now }
 {
     let first = first_of(i);
@@ -58,21 +58,28 @@ pub(crate) fn listed(
     stored: &Stored,
     i: InstanceId,
 ) -> Result<Vec<(Prefix, TableRow)>, NoMemory>
-    ensures rows { IfOk result (λ rows. rows.items ≡ filter_map row_in
-        (filter (λ e. e.0.instance.0 == i.0) stored.now.entries)) }
+    ensures rows { IfOk result (λ rows. rows.items ≡ filter_map (row_in i) stored.now.entries) }
     ensures ordered { IsOrdered row_order stored.now }
 {
     let mut rows = Vec::new(alloc);
     for (key, entry) in entries_of(stored, i) {
-        push_row(&mut rows, key, entry)?;
+        push_row(&mut rows, key, entry, i)?;
     }
     Ok(rows)
 }
 
-/// Appends a row, where there is one.
-fn push_row(rows: &mut Vec<(Prefix, TableRow)>, key: &RowKey, entry: &Entry) -> Result<(), NoMemory>
-    ensures { OnOk result (rows.new.items ≡ rows.old.items ++ cons_option (row_in (key.now, entry.now)) []) }
+/// Appends the row that is stored in a place, where there is one and it is of an instance.
+fn push_row(
+    rows: &mut Vec<(Prefix, TableRow)>,
+    key: &RowKey,
+    entry: &Entry,
+    i: InstanceId,
+) -> Result<(), NoMemory>
+    ensures { OnOk result (rows.new.items ≡ rows.old.items ++ cons_option (row_in i (key.now, entry.now)) []) }
 {
+    if key.instance.0 != i.0 {
+        return Ok(());
+    }
     if let Some(row) = shown(entry.path) {
         rows.push((key.prefix, row))?;
     }

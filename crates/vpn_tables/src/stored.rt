@@ -35,12 +35,6 @@ pub(crate) struct Entry {
 }
 
 impl Entry {
-    pub(crate) const NOTHING: Entry = Entry {
-        path: None,
-        is_up_right: false,
-        is_up_left: false,
-    };
-
     /// Whether the prefix is a subnet of an end that is up.
     pub(crate) fn is_up(&self, is_right: bool) -> bool
         ensures { result ≡ (if is_right then self.now.is_up_right else self.now.is_up_left) }
@@ -66,6 +60,17 @@ impl Entry {
     }
 }
 
+/// Nothing follows.
+fn nothing() -> Entry
+    ensures { result ≡ nothing_stored }
+{
+    Entry {
+        path: None,
+        is_up_right: false,
+        is_up_left: false,
+    }
+}
+
 /// What is stored, by instance and prefix. Nothing may be stored in a place.
 pub(crate) type Stored = BTreeMap<RowKey, Entry>;
 
@@ -75,7 +80,7 @@ pub(crate) fn entry_at(stored: &Stored, key: RowKey) -> Entry
 {
     match stored.get(&key) {
         Some(entry) => *entry,
-        None => Entry::NOTHING,
+        None => nothing(),
     }
 }
 
@@ -88,7 +93,7 @@ fn make_place(stored: &mut Stored, key: RowKey) -> Result<(), NoMemory>
         → is_some (tree.get row_order stored.new k) ≡ true) }
 {
     if !stored.contains_key(&key) {
-        stored.insert(key, Entry::NOTHING)?;
+        stored.insert(key, nothing())?;
     }
     Ok(())
 }
