@@ -1,11 +1,10 @@
 -- Where it is said whose session it is, what its agent published moves alone.
-use Rattle.std.specs.Prelude.{◌≡◌, ◌⊎◌, ℕ, List, [], ◌∷◌, ◌++◌, map, Bool, true, false, cond, ◌==◌, is_some, nat_lt}
+use Rattle.std.specs.Prelude.{◌≡◌, ◌⊎◌, ℕ, List, [], ◌∷◌, map, Bool, true, false, cond, ◌==◌, is_some, nat_lt}
 use Rattle.std.specs.declared.option.Option.{Option}
 use Rattle.std.specs.declared.option.Option.TheVariants.{Some, None}
-use Rattle.std.specs.List.{filter, filter_map, flat_map, list_any}
+use Rattle.std.specs.List.{filter, flat_map}
 use Rattle.std.specs.FinMap.{empty, entries, get, get-empty}
-use Rattle.std.proofs.lemmas.Bool.{true≢false, eqb-true}
-use Rattle.std.proofs.lemmas.Option.{same_Some}
+use Rattle.std.proofs.lemmas.Bool.{eqb-true}
 use Rattle.std.proofs.Common.{refl, sym, ◌∙◌, ap, subst, inl, inr}
 use Rattle.ov_sync.specs.declared.Delta.TheVariants.{Drop}
 use Rattle.ov_types.specs.Prefix.{Block, host_prefix}
@@ -21,7 +20,7 @@ use Rattle.node_model.specs.Values.{Value, Label}
 use Rattle.node_model.specs.Maps.{Map, as_label}
 use Rattle.node_model.specs.Members.{Member}
 use Rattle.node_model.specs.Uses.{uses}
-use Rattle.node_model.specs.Paths.{Holdings, Path, Told, own_paths}
+use Rattle.node_model.specs.Paths.{Holdings, Told, own_paths}
 use Rattle.node_model.specs.Reaching.{AreShort, Side, published_by, published_in, publisher, sides}
 use Rattle.node_model.specs.Tables.{known_instances}
 use Rattle.node_model.proofs.Members.{in_filter, in_filter_map, in_flat_map, in_left, in_map, in_right, member_get, none_some}
@@ -32,7 +31,7 @@ use Rattle.vpn_holdings.specs.Changes.{named, with_agent, with_nothing}
 use Rattle.vpn_holdings.specs.Gathered.{keys_told, up_key}
 use Rattle.vpn_holdings.specs.Indexed.{AreInOrder}
 use Rattle.vpn_holdings.specs.Listing.{told_in}
-use Rattle.vpn_holdings.specs.Moved.{place_by, place_in, target_at, targets_by_publication, told_on}
+use Rattle.vpn_holdings.specs.Moved.{place_by, target_at, targets_by_publication, told_on}
 use Rattle.vpn_holdings.specs.Touched.{imports_one, is_touched, rows_at_use, rows_by_key, touched_rows}
 use Rattle.vpn_holdings.proofs.AgentsIndexed.{found_by_session, none_there, told_first}
 use Rattle.control_change_laws.proofs.Led.{importing}

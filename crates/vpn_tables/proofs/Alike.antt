@@ -14,7 +14,7 @@ use Rattle.route_targets.specs.Numbers.{circuit_instance_of, target_of}
 use Rattle.node_model.specs.Members.{Member}
 use Rattle.node_model.specs.Uses.{hop, imports, is_hop, place_of, use_of}
 use Rattle.node_model.specs.Paths.{Holdings, Path, has_target, own_paths, peer_paths, received}
-use Rattle.node_model.specs.Reaching.{AreShort, IsReoriginated, Side, below, circuit_at, has_path_within, hop_at, is_up, publisher, reoriginated_paths, sides, subnets}
+use Rattle.node_model.specs.Reaching.{AreShort, Side, below, circuit_at, has_path_within, hop_at, is_up, publisher, reoriginated_paths, sides, subnets}
 use Rattle.node_model.specs.Tables.{paths_of, same_prefix}
 use Rattle.node_model.proofs.Members.{any_in, from_any, from_filter, from_flat_map, from_map, iff_same, in_either, in_filter, in_flat_map, in_left, in_map, in_right}
 use Rattle.node_model.proofs.Objects.{imports_hop, in_sides, side_use, use_held}

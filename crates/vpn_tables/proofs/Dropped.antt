@@ -9,7 +9,6 @@ use Rattle.std.specs.Ordering.{eq_by_cmp}
 use Rattle.std.proofs.Common.{refl, sym, ◌∙◌, ap, subst, inl, inr}
 use Rattle.ov_sync.proofs.Ascending.{entries-empty}
 use Rattle.ov_sync.specs.declared.Delta.TheVariants.{Drop}
-use Rattle.ov_types.specs.Prefix.{Block, host_prefix}
 use Rattle.ov_types.specs.declared.numbers.InstanceId.{InstanceId}
 use Rattle.ov_types.specs.declared.numbers.Label.{Label as LabelNo}
 use Rattle.ov_types.specs.declared.objects.LowKey.{LowKey}
@@ -19,10 +18,9 @@ use Rattle.node_model.specs.Keys.{Key, Low, Publish, key_cmp}
 use Rattle.node_model.specs.Values.{Value}
 use Rattle.node_model.specs.Maps.{Map, as_label, as_object, object}
 use Rattle.node_model.specs.Members.{Member}
-use Rattle.node_model.specs.Uses.{Use, held_use, hop_imports, imports, is_hop, is_known, is_place, network_imports, place_of, use_from, use_of, uses}
-use Rattle.node_model.specs.Paths.{Holdings, IsOwnRoute, Path, Told, own_paths, peer_path, peer_paths}
+use Rattle.node_model.specs.Uses.{Use, held_use, hop_imports, imports, is_hop, is_known, is_place, network_imports, place_of, use_from, use_of}
+use Rattle.node_model.specs.Paths.{Holdings, Path, Told, own_paths, peer_path, peer_paths}
 use Rattle.node_model.specs.Reaching.{Side, published_by, published_in, sides}
-use Rattle.node_model.specs.Tables.{paths_of, table}
 use Rattle.node_model.proofs.Members.{from_flat_map, in_flat_map, none_some}
 use Rattle.node_model.proofs.Objects.{in_sides, side_use, use_held}
 use Rattle.node_model.proofs.Orders.{key_total}

@@ -1,5 +1,5 @@
 -- Where less is held, nothing follows where nothing followed.
-use Rattle.std.specs.Prelude.{◌≡◌, ℕ, zero, suc, ◌≤◌, List, [], ◌∷◌, ◌++◌, map, Bool, true, false, cond, ◌==◌, ◌&&◌, ◌||◌, is_some, nat_le}
+use Rattle.std.specs.Prelude.{◌≡◌, ℕ, zero, suc, List, [], ◌∷◌, ◌++◌, map, Bool, true, false, cond, ◌==◌, ◌&&◌, ◌||◌, is_some, nat_le}
 use Rattle.std.specs.declared.option.Option.{Option}
 use Rattle.std.specs.declared.option.Option.TheVariants.{Some, None}
 use Rattle.std.specs.List.{filter, list_any}
@@ -17,10 +17,8 @@ use Rattle.node_model.specs.Paths.{Holdings, Path, has_target, own_paths, peer_p
 use Rattle.node_model.specs.Reaching.{IsReoriginated, Side, circuit_at, has_path_within, hop_at, is_up, publisher, reoriginated_paths, sides, subnets}
 use Rattle.node_model.specs.Tables.{paths_of, same_prefix}
 use Rattle.node_model.proofs.Members.{any_in, from_any, from_filter, from_map, in_either, in_filter, in_left, in_map, in_right}
-use Rattle.node_model.proofs.Objects.{in_sides}
 use Rattle.node_model.proofs.Routes.{reoriginated_from, reoriginated_in}
 use Rattle.vpn_holdings.specs.Answers.{distance, is_up_at, is_up_on, side_at}
-use Rattle.vpn_holdings.specs.At.{selected_at}
 use Rattle.vpn_tables.specs.Stored.{entry_of, nothing_stored}
 use Rattle.vpn_tables.specs.declared.stored.Entry.{Entry}
 use Rattle.vpn_tables.specs.declared.stored.RowKey.{RowKey}

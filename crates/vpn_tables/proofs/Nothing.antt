@@ -1,9 +1,9 @@
 -- Nothing follows where no object is held.
-use Rattle.std.specs.Prelude.{◌≡◌, ℕ, List, [], ◌∷◌, Bool, true, false, cond, is_some}
+use Rattle.std.specs.Prelude.{◌≡◌, List, [], Bool, true, false, cond, is_some}
 use Rattle.std.specs.declared.option.Option.{Option}
 use Rattle.std.specs.declared.option.Option.TheVariants.{Some, None}
 use Rattle.std.specs.List.{filter_map}
-use Rattle.std.specs.FinMap.{empty, entries, get, get-empty}
+use Rattle.std.specs.FinMap.{empty, get, get-empty}
 use Rattle.std.specs.Option.{option_map}
 use Rattle.std.proofs.Common.{refl, sym, ◌∙◌, ap, subst}
 use Rattle.ov_sync.proofs.Ascending.{entries-empty}
@@ -14,9 +14,9 @@ use Rattle.ov_types.specs.declared.objects.LowKey.TheVariants as key
 use Rattle.ov_types.specs.declared.objects.LowValue.{LowValue}
 use Rattle.node_model.specs.Keys.{Key, Low, key_cmp}
 use Rattle.node_model.specs.Values.{Value}
-use Rattle.node_model.specs.Maps.{Map, as_object, low_entry, object, objects}
+use Rattle.node_model.specs.Maps.{Map, as_object, low_entry, object}
 use Rattle.node_model.specs.Members.{Member}
-use Rattle.node_model.specs.Uses.{Use, as_use, held_use, is_hop, is_known, is_place, place_of, use_from, use_of, uses}
+use Rattle.node_model.specs.Uses.{as_use, held_use, is_hop, is_known, is_place, place_of, use_from, use_of, uses}
 use Rattle.node_model.specs.Paths.{Holdings, Path}
 use Rattle.node_model.specs.Reaching.{AreShort}
 use Rattle.node_model.specs.Tables.{paths_of, table}

@@ -1,16 +1,12 @@
 -- Where an object changes, its own instances change alone, and what is published in them.
-use Rattle.std.specs.Prelude.{◌≡◌, ◌≢◌, ◌⊎◌, ℕ, ◌<◌, ◌≤◌, ◌+◌, ◌*◌, ◌-◌, ◌/◌, ◌%◌, List, [], ◌∷◌, ◌++◌, map, Bool, true, false, cond, ◌==◌, is_some, nat_le, nat_lt}
-use Rattle.std.specs.declared.option.Option.{Option}
-use Rattle.std.specs.declared.option.Option.TheVariants.{Some, None}
+use Rattle.std.specs.Prelude.{◌≡◌, ◌≢◌, ◌⊎◌, ℕ, ◌≤◌, ◌-◌, List, [], ◌∷◌, map, true, false, cond, ◌==◌, is_some}
 use Rattle.std.specs.List.{enumerate_from, filter_map, flat_map}
-use Rattle.std.specs.FinMap.{entries, get}
-use Rattle.std.specs.Option.{option_map}
-use Rattle.std.proofs.lemmas.Bool.{true≢false, eq-eqb, eqb-true}
-use Rattle.std.proofs.Common.{refl, sym, ◌∙◌, ap, subst, inl, inr, arith}
+use Rattle.std.specs.FinMap.{entries}
+use Rattle.std.proofs.lemmas.Bool.{true≢false, eq-eqb}
+use Rattle.std.proofs.Common.{refl, sym, ◌∙◌, ap, subst, inl, inr}
 use Rattle.ov_sync.specs.declared.Delta.{Delta}
 use Rattle.ov_sync.specs.Keyed.{key_of}
 use Rattle.ov_types.specs.Prefix.{Block}
-use Rattle.ov_types.specs.declared.keys.UpKey.{UpKey}
 use Rattle.ov_types.specs.declared.keys.UpKey.TheVariants as Up
 use Rattle.ov_types.specs.declared.numbers.InstanceId.{InstanceId}
 use Rattle.ov_types.specs.declared.objects.LowKey.{LowKey}
@@ -21,8 +17,8 @@ use Rattle.node_model.specs.Keys.{Key, Publish}
 use Rattle.node_model.specs.Values.{Value, Label}
 use Rattle.node_model.specs.Maps.{Map, object}
 use Rattle.node_model.specs.Members.{Member}
-use Rattle.node_model.specs.Uses.{Use, held_use, hop, hop_imports, imports, is_hop, is_known, is_place, network_imports, place_of, use_from, use_of, uses}
-use Rattle.node_model.specs.Paths.{Holdings, Path, Told, own_paths, peer_path}
+use Rattle.node_model.specs.Uses.{held_use, hop_imports, imports, is_hop, is_known, is_place, network_imports, place_of, use_from, use_of}
+use Rattle.node_model.specs.Paths.{Holdings, Told, own_paths, peer_path}
 use Rattle.node_model.specs.Reaching.{AreShort, Side, hop_at, published_in, sides}
 use Rattle.node_model.proofs.Members.{in_filter_map, in_flat_map, member_get}
 use Rattle.node_model.proofs.Objects.{in_sides, is_hop-hop, side_use, use_held, use_of-hop}
@@ -32,7 +28,7 @@ use Rattle.node_model.proofs.Routes.{own_route_from, own_route_in}
 use Rattle.node_model.proofs.Unknown.{le_trans, place_at, place_at-within}
 use Rattle.vpn_holdings.specs.Changes.{with_low}
 use Rattle.vpn_holdings.specs.Gathered.{held_keys, keys_told, up_key}
-use Rattle.vpn_holdings.specs.Touched.{imports_one, is_touched, rows_at_use, touched_rows}
+use Rattle.vpn_holdings.specs.Touched.{imports_one, is_touched, touched_rows}
 use Rattle.control_change_laws.proofs.Objects.{object_stays}
 use Rattle.control_change_laws.proofs.Wanted.{at_row}
 use Rattle.vpn_tables.specs.Changing.{is_of, rows_published}

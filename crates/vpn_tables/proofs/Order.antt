@@ -1,12 +1,9 @@
 -- The orders of rows and of ends tell them apart.
-use Rattle.std.specs.Prelude.{◌≡◌, Bool, true}
-use Rattle.std.specs.BTreeMap.{is_at}
-use Rattle.std.specs.Cmp.{Equal-is, IsTotalOrder, on_total, then_total, tied_itself}
-use Rattle.std.specs.declared.cmp.Ordering.{Ordering}
-use Rattle.std.specs.declared.cmp.Ordering.TheVariants.{Less, Equal, Greater}
+use Rattle.std.specs.Prelude.{◌≡◌, true}
+use Rattle.std.specs.Cmp.{Equal-is, IsTotalOrder, on_total, tied_itself}
 use Rattle.std.specs.FinMap.{IsAntisymmetric}
 use Rattle.std.specs.Ordering.{is_eq}
-use Rattle.std.proofs.Common.{refl, sym, ◌∙◌, ap, subst, rules}
+use Rattle.std.proofs.Common.{◌∙◌, ap, subst, rules}
 use Rattle.ov_types.specs.Keys.{row_key_cmp}
 use Rattle.ov_types.specs.declared.keys.DownKey.TheVariants as Down
 use Rattle.node_model.specs.Keys.{Key, Low, Vpn, Row, Publish, Subscribe, key_cmp}

@@ -8,6 +8,7 @@ use Rattle.std.specs.Option.{option_map}
 use Rattle.std.proofs.lemmas.Bool.{true≢false}
 use Rattle.std.proofs.Common.{refl, sym, ◌∙◌, ap}
 use Rattle.node_model.specs.Paths.{Holdings}
+use Rattle.path_select.specs.declared.selection.Path.{Path}
 use Rattle.vpn_tables.specs.Stored.{entry_of, entry_or, is_row, nothing_stored, row_order, stored_at}
 use Rattle.vpn_tables.specs.declared.stored.Entry.{Entry}
 use Rattle.vpn_tables.specs.declared.stored.RowKey.{RowKey}
@@ -67,3 +68,11 @@ follows_written old new h key e is put k =
     put k
     ∙ by_key (λ k t. cond t (option_map (λ _. e) (found old key)) (found old k) ≡ cond t (option_map (λ _. entry_of h k) (found old k)) (found old k)) key
     (λ k same. λ n. option_map (λ _. (is ∙ ap (entry_of h) same) n) (found old (same n))) (λ k. refl) k
+
+-- an entry of nothing
+pub is_nothing : (e : Entry) → is_some e.path ≡ false → e.is_up_right ≡ false → e.is_up_left ≡ false → e ≡ nothing_stored
+is_nothing e p r l = λ n. record { path = none e.path p n; is_up_right = r n; is_up_left = l n }
+  where
+    none : (o : Option Path) → is_some o ≡ false → o ≡ None
+    none None t = refl
+    none (Some x) t = absurd (true≢false t)

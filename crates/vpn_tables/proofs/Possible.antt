@@ -1,5 +1,5 @@
 -- Where something follows of an instance, something was told with the prefix, or it is a subnet of the instance's use.
-use Rattle.std.specs.Prelude.{◌≡◌, ◌⊎◌, ℕ, suc, ◌<◌, ◌≤◌, ◌+◌, ◌*◌, ◌-◌, ◌/◌, ◌%◌, List, [], ◌∷◌, ◌++◌, map, Bool, true, false, cond, ◌==◌, is_some, nat_le}
+use Rattle.std.specs.Prelude.{◌≡◌, ℕ, suc, ◌<◌, ◌≤◌, ◌+◌, ◌-◌, ◌%◌, List, [], ◌∷◌, ◌++◌, map, Bool, true, false, cond, ◌==◌, is_some, nat_le}
 use Rattle.std.specs.declared.option.Option.{Option}
 use Rattle.std.specs.declared.option.Option.TheVariants.{Some, None}
 use Rattle.std.specs.List.{enumerate_from, filter, filter_map, flat_map, list_any}
@@ -8,7 +8,6 @@ use Rattle.std.specs.Option.{option_map}
 use Rattle.std.specs.Ordering.{is_eq}
 use Rattle.std.specs.Cmp.{tied_itself}
 use Rattle.std.proofs.lemmas.Bool.{true≢false, eqb-true, le-leb}
-use Rattle.std.proofs.lemmas.Option.{same_Some}
 use Rattle.std.proofs.Common.{refl, sym, ◌∙◌, ap, subst, inl, inr, arith}
 use Rattle.ov_sync.specs.declared.Delta.TheVariants.{Put}
 use Rattle.ov_types.specs.Prefix.{Block}
@@ -21,7 +20,7 @@ use Rattle.node_model.specs.Keys.{Key, Low, Publish, Row, Subscribe, Vpn}
 use Rattle.node_model.specs.Values.{Entry as EntryValue, Label, Object, Route, Value}
 use Rattle.node_model.specs.Maps.{Map, as_object, object}
 use Rattle.node_model.specs.Members.{Member}
-use Rattle.node_model.specs.Uses.{Use, as_use, held_use, is_hop, is_known, is_place, place_of, use_from, use_of, uses}
+use Rattle.node_model.specs.Uses.{Use, held_use, is_hop, is_known, is_place, place_of, use_from, use_of, uses}
 use Rattle.node_model.specs.Paths.{Holdings, Path, has_target, own_paths, peer_path, peer_paths, received}
 use Rattle.node_model.specs.Reaching.{AreShort, Side, below, hop_at, is_up, reoriginated_paths, subnets}
 use Rattle.node_model.specs.Tables.{paths_of, same_prefix, table}

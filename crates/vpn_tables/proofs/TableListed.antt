@@ -30,7 +30,7 @@ use Rattle.path_select.specs.Selection.{plain}
 use Rattle.vpn_holdings.specs.Answers.{rows_at}
 use Rattle.vpn_holdings.specs.At.{shown}
 use Rattle.vpn_tables.specs.Listed.{row_in}
-use Rattle.vpn_tables.specs.Stored.{AreStored, entry_or, row_order, stored_at}
+use Rattle.vpn_tables.specs.Stored.{AreStored, entry_or, row_order}
 use Rattle.vpn_tables.specs.declared.stored.Entry.{Entry}
 use Rattle.vpn_tables.specs.declared.stored.RowKey.{RowKey}
 use Rattle.vpn_tables.proofs.Order.{row_exact, row_same}

@@ -1,5 +1,5 @@
 -- What follows of an instance and a prefix, and how it is stored.
-use Rattle.std.specs.Prelude.{◌≡◌, List, Bool, true, false}
+use Rattle.std.specs.Prelude.{◌≡◌, Bool, true, false}
 use Rattle.std.specs.declared.cmp.Ordering.{Ordering}
 use Rattle.std.specs.declared.option.Option.{Option}
 use Rattle.std.specs.declared.option.Option.TheVariants.{Some, None}

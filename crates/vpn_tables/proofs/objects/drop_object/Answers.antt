@@ -1,5 +1,3 @@
-use Rattle.std.proofs.Common.{ap, sym, ◌∙◌}
-use Rattle.vpn_tables.specs.Stored.{entry_of}
 use Rattle.vpn_tables.proofs.Emptied.{object_stored}
 use Rattle.vpn_tables.proofs.objects.drop_object.Goals as goal
 
