@@ -59,10 +59,13 @@ abbrev pub selected_at : Holdings → InstanceId → Block → Option Path
 selected_at h i prefix = option_map plain (get (table h i) prefix)
 
 -- the one of two paths that is used, where they are there, and that of many which some places have
+abbrev pub better_with : Path → Option Path → Option Path
+better_with p None = Some p
+better_with p (Some b) = if is_better p b then Some p else Some b
+
 abbrev pub better_of : Option Path → Option Path → Option Path
 better_of best None = best
-better_of None (Some p) = Some p
-better_of (Some b) (Some p) = if is_better p b then Some p else Some b
+better_of best (Some p) = better_with p best
 
 abbrev pub best_over : {X : Type 0} → (X → Option Path) → Option Path → List X → Option Path
 best_over f best [] = best

@@ -72,11 +72,10 @@ impl VpnHoldings {
     pub fn keys_told(&self, session: u16) -> Result<Vec<UpKey>, NoMemory>
         ensures { IfOk result (λ keys. keys.items ≡ keys_told (told_in self.now.agents session)) }
     {
-        let mut keys = Vec::new(self.alloc);
-        if let Some(agent) = self.agent(session) {
-            agent.push_keys(&mut keys)?;
+        match self.agent(session) {
+            Some(agent) => agent.keys(self.alloc),
+            None => Ok(Vec::new(self.alloc)),
         }
-        Ok(keys)
     }
 
     /// The instances that an instance imports the routes of: none where it is not known.
@@ -130,6 +129,14 @@ fn copies(alloc: Global, instances: &[InstanceId]) -> Result<Vec<InstanceId>, No
 }
 
 impl Agent {
+    fn keys(&self, alloc: Global) -> Result<Vec<UpKey>, NoMemory>
+        ensures { IfOk result (λ keys. keys.items ≡ keys_told (agent_of self.now)) }
+    {
+        let mut keys = Vec::new(alloc);
+        self.push_keys(&mut keys)?;
+        Ok(keys)
+    }
+
     fn push_keys(&self, keys: &mut Vec<UpKey>) -> Result<(), NoMemory>
         ensures { OnOk result (keys.new.items ≡ keys.old.items ++ keys_told (agent_of self.now)) }
     {
