@@ -3,7 +3,6 @@
 
 mod at;
 mod chains;
-mod choosing;
 mod forgetting;
 mod gathered;
 mod holdings;
@@ -22,6 +21,7 @@ mod publishing;
 mod reaching;
 mod received;
 mod routes;
+mod selecting;
 mod sessions;
 mod table;
 mod touching;
