@@ -7,4 +7,4 @@ use Rattle.vpn_holdings.proofs.selecting.best_of_labels.Given as goal
 abbrev pub invariant-loop-at : goal.invariant-loop-at
 invariant-loop-at l =
     best_over (label_path l.holdings l.imports) l.best l.at-iterator
-    ≡ best_over (label_path l.holdings l.imports) l.first (filter (λ e. is_label_to l.prefix e.0) l.labels.entries)
+    ≡ best_over (label_path l.holdings l.imports) l.fn.first (filter (λ e. is_label_to l.prefix e.0) l.labels.entries)
