@@ -1,11 +1,11 @@
 //! Agents.
 
-use crate::answers::{begin, push_session, push_stepped};
-use crate::fault::{CaseFault, told};
+use crate::answers::{push_session, push_stepped};
 use crate::flows::{packet, tell_flows, tell_verdict, tell_verdicts};
 use crate::nodes::Node;
-use crate::words::{address, both, id, ids, number, short_number};
+use crate::words::{id, ids};
 use agent_node::{AgentNode, AgentPlan};
+use case_lines::{CaseFault, address, begin, both, number, short_number, told};
 use ov_io::TextOut;
 use ov_link::{FailingLink, Input, Links};
 use ov_types::{

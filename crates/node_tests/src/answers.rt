@@ -1,19 +1,9 @@
 //! What nodes answer.
 
-use crate::fault::{CaseFault, told};
+use case_lines::{CaseFault, told};
 use ov_io::TextOut;
 use ov_link::{NodeFault, Stepped};
-use ov_types::NoMemory;
 use std::fmt::Debug;
-
-/// Begins one more thing that is told.
-pub(crate) fn begin(out: &mut TextOut) -> Result<(), NoMemory> {
-    if out.octets().is_empty() {
-        Ok(())
-    } else {
-        out.push(b" / ")
-    }
-}
 
 /// What a step of a node came to.
 pub(crate) fn push_stepped<C: Debug + Drop>(

@@ -1,9 +1,10 @@
-//! Cases: nodes of one kind, and steps with what is wanted of each.
+//! Cases: tables or nodes of one kind, and steps with what is wanted of each.
 
 use crate::nodes::Node;
 use crate::scene::Scene;
-use crate::tally::Tally;
+use crate::tables;
 use agent_node::AgentNode;
+use case_lines::{CaseFault, Tally, count_all};
 use config_node::ConfigNode;
 use control_node::ControlNode;
 use ov_io::TextOut;
@@ -18,28 +19,17 @@ pub(crate) fn play_all(alloc: Global, text: &str, tally: &mut Tally) -> Result<(
     Ok(())
 }
 
-/// Plays a case. Its first line is the kind of its nodes and its name, and each other line a step.
+/// Plays a case. Its first line has its kind and its name, and each other line a step.
 fn play(alloc: Global, case: &str, tally: &mut Tally) -> Result<(), NoMemory> {
     let (head, steps) = case.split_once("\n").unwrap_or((case, ""));
-    match head.split_once(" ") {
-        Some((kind, name)) => play_of(alloc, kind, name, steps, tally),
-        None => tally.count(head, "", "a kind and a name", b""),
-    }
-}
-
-fn play_of(
-    alloc: Global,
-    kind: &str,
-    name: &str,
-    steps: &str,
-    tally: &mut Tally,
-) -> Result<(), NoMemory> {
+    let (kind, name) = head.split_once(" ").unwrap_or((head, ""));
     match kind {
         "#" => Ok(()),
+        "tables" => tables::play(alloc, name, steps, tally),
         "config" => play_at::<ConfigNode>(alloc, name, steps, tally),
         "control" => play_at::<ControlNode>(alloc, name, steps, tally),
         "agent" => play_at::<AgentNode>(alloc, name, steps, tally),
-        _ => tally.count(name, kind, "a kind of node", b""),
+        _ => tally.miss(name, kind, CaseFault::Unreadable),
     }
 }
 
@@ -51,51 +41,15 @@ fn play_at<N: Node>(
     tally: &mut Tally,
 ) -> Result<(), NoMemory> {
     let mut scene = Scene::<N>::new(alloc);
-    play_steps(alloc, name, steps, &mut scene, tally)
+    count_all(alloc, name, steps, &mut scene, tally)
 }
 
-fn play_steps<N: Node>(
-    alloc: Global,
-    name: &str,
-    steps: &str,
-    scene: &mut Scene<N>,
-    tally: &mut Tally,
-) -> Result<(), NoMemory> {
-    for line in steps.split("\n") {
-        if !line.is_empty() && !line.starts_with("#") {
-            play_step(alloc, name, line, scene, tally)?;
-        }
-    }
-    Ok(())
-}
-
-/// A line is a step, and behind `=>` what is wanted of it. Where nothing stands there, it is to be done and nothing else.
-fn play_step<N: Node>(
-    alloc: Global,
-    name: &str,
-    line: &str,
-    scene: &mut Scene<N>,
-    tally: &mut Tally,
-) -> Result<(), NoMemory> {
-    let (step, wanted) = line.split_once(" => ").unwrap_or((line, "done"));
-    let mut came = TextOut::new(alloc);
-    tell(alloc, step, scene, &mut came)?;
-    tally.count(name, line, wanted, came.octets())
-}
-
-/// What a step comes to, or why it can't be made.
-fn tell<N: Node>(
-    alloc: Global,
-    step: &str,
-    scene: &mut Scene<N>,
-    came: &mut TextOut,
-) -> Result<(), NoMemory> {
-    match scene.make(alloc, step, came) {
-        Ok(()) if came.octets().is_empty() => came.push(b"none"),
-        Ok(()) => Ok(()),
-        Err(fault) => {
-            came.clear();
-            write!(came, "{fault}")
-        }
+/// Whether a step came to what is wanted. Where nothing was told, it came to none.
+pub(crate) fn is_wanted(wanted: &str, came: &TextOut) -> bool {
+    let told = came.octets();
+    if told.is_empty() {
+        wanted == "none"
+    } else {
+        told == wanted.as_bytes()
     }
 }

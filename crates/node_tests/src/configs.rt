@@ -2,9 +2,9 @@
 ghost use Rattle.std.specs.Prelude.{◌≡◌, IfOk, IsTrue};
 ghost use Rattle.config_types.specs.Form.{has_edit_form};
 
-use crate::answers::{begin, push_done, push_session, push_stepped};
-use crate::fault::{CaseFault, told};
+use crate::answers::{push_done, push_session, push_stepped};
 use crate::nodes::Node;
+use case_lines::{CaseFault, begin, told};
 use config_check::{EditRefusal, Valid, apply_edit, check};
 use config_model::{read_compile, read_edit};
 use config_node::ConfigNode;

@@ -1,13 +1,14 @@
 //! Control nodes.
 
-use crate::answers::{begin, push_done, push_session, push_stepped};
-use crate::fault::{CaseFault, told};
+use crate::answers::{push_done, push_session, push_stepped};
+use crate::listing::push_rows;
 use crate::nodes::Node;
-use crate::words::{both, id, ids, number, short_number};
+use crate::words::{id, ids};
+use case_lines::{CaseFault, both, number, short_number, told};
 use control_node::{ControlNode, ControlPlan};
 use ov_io::TextOut;
 use ov_link::{FailingLink, Input, Links};
-use ov_types::{InstanceId, Items, NoMemory, NodeId, Prefix, TableRow};
+use ov_types::{Items, NodeId};
 use std::alloc::Global;
 
 /// A control node of an autonomous system, with these peers and agents.
@@ -29,24 +30,6 @@ fn made_of(
         retired: Items::new(alloc),
     };
     Ok(ControlNode::new(alloc, plan)?)
-}
-
-fn push_row(
-    instance: InstanceId,
-    prefix: &Prefix,
-    row: &TableRow,
-    out: &mut TextOut,
-) -> Result<(), NoMemory> {
-    begin(out)?;
-    write!(out, "{instance} {prefix} {row}")
-}
-
-/// The rows of all instances.
-fn push_rows(rows: &[((InstanceId, Prefix), TableRow)], out: &mut TextOut) -> Result<(), NoMemory> {
-    for ((instance, prefix), row) in rows {
-        push_row(*instance, prefix, row, out)?;
-    }
-    Ok(())
 }
 
 fn tell_rows(node: &ControlNode, out: &mut TextOut) -> Result<(), CaseFault> {

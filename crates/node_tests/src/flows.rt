@@ -1,10 +1,8 @@
 //! What agents say of packets, and what they keep of that.
 ghost use Rattle.std.specs.Prelude.{◌≤◌};
 
-use crate::answers::begin;
-use crate::fault::{CaseFault, told};
-use crate::words::{address, both, number, octet, short_number};
 use agent_node::AgentNode;
+use case_lines::{CaseFault, address, begin, both, number, octet, short_number, told};
 use ov_io::TextOut;
 use ov_types::{Addr, InstanceId, NoMemory, Packet, PortNo, Tuple, Verdict};
 use packet_trace::Vrouter;

@@ -1,9 +1,7 @@
 //! The links of a node, and what was sent on them.
 
-use crate::answers::begin;
-use crate::fault::{CaseFault, told};
 use crate::octets::push_message;
-use crate::words::number;
+use case_lines::{CaseFault, begin, number, told};
 use ov_io::TextOut;
 use ov_link::{FailingLink, Links};
 use ov_types::NoMemory;

@@ -1,23 +1,26 @@
-//! Cases of the configuration node, of control nodes and of agents over their links. Standard input has them, with blank lines
-//! between; the steps that come to something else than is wanted are printed, and then how many come to what is wanted.
+//! Cases of the tables that control nodes have, and of the configuration node, control nodes and agents over their links. Standard
+//! input has them, with blank lines between, each step with what is wanted of it.
 #![tactic(auto)]
 
 mod agents;
 mod answers;
 mod cases;
+mod changes;
 mod configs;
 mod controls;
-mod fault;
 mod flows;
 mod links;
+mod listing;
 mod nodes;
 mod octets;
+mod questions;
 mod scene;
-mod tally;
+mod tables;
+mod wanted;
 mod words;
 
 use crate::cases::play_all;
-use crate::tally::Tally;
+use case_lines::Tally;
 use std::alloc::Global;
 use std::io;
 
@@ -25,11 +28,7 @@ use std::io;
 fn play(rt: &impl Print, alloc: Global, text: &str) -> io::Result<()> {
     let mut tally = Tally::new(alloc);
     let end = play_all(alloc, text, &mut tally);
-    rt.write_all(tally.missed())?;
-    match end {
-        Ok(()) => rt.println(tally.sum()),
-        Err(fault) => rt.println(fault),
-    }
+    tally.print(rt, end)
 }
 
 fn main(rt: HostRuntime) -> io::Result<()> {

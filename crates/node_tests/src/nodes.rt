@@ -1,6 +1,6 @@
 //! Nodes, as cases take them.
 
-use crate::fault::CaseFault;
+use case_lines::CaseFault;
 use ov_io::TextOut;
 use ov_link::{FailingLink, Links};
 use std::alloc::Global;

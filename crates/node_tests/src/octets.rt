@@ -1,12 +1,10 @@
-//! Octets, as cases spell them: a record is its text, which stands behind its length, and a message of BGP is `M` for its marker
+//! Octets, as steps spell them: a record is its text, which stands behind its length, and a message of BGP is `M` for its marker
 //! and pairs of hexadecimal digits.
 
-use crate::fault::CaseFault;
+use case_lines::{CaseFault, MARKER, push_digits, push_slice, push_words};
 use ov_io::TextOut;
 use ov_types::NoMemory;
 use std::alloc::Global;
-
-static MARKER: [u8; 16] = [255; 16];
 
 /// The octets of the records and messages of a text, which stand between plus signs.
 pub(crate) fn octets(alloc: Global, text: &str) -> Result<Vec<u8>, CaseFault> {
@@ -34,62 +32,10 @@ fn push_one(alloc: Global, text: &str, octets: &mut Vec<u8>) -> Result<(), CaseF
 
 fn push_record(text: &str, octets: &mut Vec<u8>) -> Result<(), CaseFault> {
     match u32::try_from(text.len()) {
-        Ok(length) => octets.extend_from_slice(&length.to_be_bytes())?,
+        Ok(length) => push_slice(&length.to_be_bytes(), octets)?,
         Err(_) => return Err(CaseFault::Unreadable),
     }
     push_slice(text.as_bytes(), octets)
-}
-
-fn push_slice(more: &[u8], octets: &mut Vec<u8>) -> Result<(), CaseFault> {
-    match octets.extend_from_slice(more) {
-        Ok(()) => Ok(()),
-        Err(_) => Err(CaseFault::NoMemory),
-    }
-}
-
-fn push_words(alloc: Global, text: &str, octets: &mut Vec<u8>) -> Result<(), CaseFault> {
-    for word in text.split_whitespace() {
-        push_word(alloc, word, octets)?;
-    }
-    Ok(())
-}
-
-/// Appends the octets of a word: `M`, pairs of digits, or a pair, `*` and how many times it comes.
-fn push_word(alloc: Global, word: &str, octets: &mut Vec<u8>) -> Result<(), CaseFault> {
-    match word.split_once("*") {
-        Some((pair, count)) => push_counted(alloc, pair, count, octets),
-        None if word == "M" => push_slice(&MARKER, octets),
-        None => push_pairs(alloc, word, octets),
-    }
-}
-
-fn push_counted(
-    alloc: Global,
-    pair: &str,
-    count: &str,
-    octets: &mut Vec<u8>,
-) -> Result<(), CaseFault> {
-    match count.parse() {
-        Ok(count) => push_times(alloc, pair, count, octets),
-        Err(_) => Err(CaseFault::Unreadable),
-    }
-}
-
-fn push_times(
-    alloc: Global,
-    pair: &str,
-    count: u16,
-    octets: &mut Vec<u8>,
-) -> Result<(), CaseFault> {
-    for _time in 0..count {
-        push_pairs(alloc, pair, octets)?;
-    }
-    Ok(())
-}
-
-fn push_pairs(alloc: Global, pairs: &str, octets: &mut Vec<u8>) -> Result<(), CaseFault> {
-    let more = hex::decode(alloc, pairs)?;
-    push_slice(more.as_slice(), octets)
 }
 
 /// Some octets of a whole: all of them, the `first` so many, or those `past` so many.
@@ -114,9 +60,13 @@ fn cut_at<'a>(side: &str, count: &str, whole: &'a [u8]) -> Result<&'a [u8], Case
 
 /// Tells a record as its text, a message as `M` and its other octets, and what is neither as its octets.
 pub(crate) fn push_message(octets: &[u8], out: &mut TextOut) -> Result<(), NoMemory> {
-    if let Some(text) = text_of(octets) {
-        return out.push(text);
+    match text_of(octets) {
+        Some(text) => out.push(text),
+        None => push_octets(octets, out),
     }
+}
+
+fn push_octets(octets: &[u8], out: &mut TextOut) -> Result<(), NoMemory> {
     match octets.strip_prefix(&MARKER) {
         Some(rest) => {
             out.push(b"M ")?;
@@ -139,11 +89,4 @@ fn text_of(octets: &[u8]) -> Option<&[u8]> {
         }
         _ => None,
     }
-}
-
-fn push_digits(octets: &[u8], out: &mut TextOut) -> Result<(), NoMemory> {
-    for octet in octets {
-        write!(out, "{octet:02x}")?;
-    }
-    Ok(())
 }

@@ -1,9 +1,10 @@
 //! The nodes of a case over their links, and its steps.
 
-use crate::fault::{CaseFault, told};
+use crate::cases::is_wanted;
 use crate::links;
 use crate::nodes::Node;
 use crate::octets::{octets, part_of};
+use case_lines::{CaseFault, Cases, told};
 use ov_io::TextOut;
 use ov_link::{FailingLink, Links};
 use std::alloc::Global;
@@ -24,12 +25,7 @@ impl<N: Node> Scene<N> {
     }
 
     /// Makes a step: at the far node where `far` stands in front of it, and else at the near one.
-    pub(crate) fn make(
-        &mut self,
-        alloc: Global,
-        step: &str,
-        out: &mut TextOut,
-    ) -> Result<(), CaseFault> {
+    fn make(&mut self, alloc: Global, step: &str, out: &mut TextOut) -> Result<(), CaseFault> {
         let (place, step) = match step.strip_prefix("far ") {
             Some(step) => (1, step),
             None => (0, step),
@@ -71,6 +67,15 @@ impl<N: Node> Scene<N> {
             },
             _ => Err(CaseFault::Unreadable),
         }
+    }
+}
+
+/// A line is a step, and behind `=>` what is wanted of it. Where nothing stands there, it is to be done and nothing else.
+impl<N: Node> Cases for Scene<N> {
+    fn holds(&mut self, alloc: Global, line: &str, came: &mut TextOut) -> Result<bool, CaseFault> {
+        let (step, wanted) = line.split_once(" => ").unwrap_or((line, "done"));
+        self.make(alloc, step, came)?;
+        Ok(is_wanted(wanted, came))
     }
 }
 

@@ -1,41 +1,24 @@
 //! Words of steps.
 
-use crate::fault::CaseFault;
-use ov_types::written::address_from;
-use ov_types::{Addr, Items, Name, NodeId};
+use case_lines::{CaseFault, address, long_number, short_number};
+use ov_types::written::prefix_from;
+use ov_types::{InstanceId, Items, Name, NodeId, Prefix, Rd, VpnKey};
 use std::alloc::Global;
 
-pub(crate) fn number(word: &str) -> Result<u32, CaseFault> {
-    match word.parse() {
-        Ok(number) => Ok(number),
-        Err(_) => Err(CaseFault::Unreadable),
-    }
+pub(crate) fn instance(word: &str) -> Result<InstanceId, CaseFault> {
+    Ok(InstanceId(short_number(word)?))
 }
 
-pub(crate) fn short_number(word: &str) -> Result<u16, CaseFault> {
-    match word.parse() {
-        Ok(number) => Ok(number),
-        Err(_) => Err(CaseFault::Unreadable),
-    }
+pub(crate) fn prefix(word: &str) -> Result<Prefix, CaseFault> {
+    prefix_from(word).ok_or(CaseFault::Unreadable)
 }
 
-pub(crate) fn octet(word: &str) -> Result<u8, CaseFault> {
-    match word.parse() {
-        Ok(number) => Ok(number),
-        Err(_) => Err(CaseFault::Unreadable),
-    }
-}
-
-pub(crate) fn address(word: &str) -> Result<Addr, CaseFault> {
-    match address_from(word) {
-        Some(address) => Ok(Addr(address)),
-        None => Err(CaseFault::Unreadable),
-    }
-}
-
-/// Two words.
-pub(crate) fn both(words: &str) -> Result<(&str, &str), CaseFault> {
-    words.split_once(" ").ok_or(CaseFault::Unreadable)
+/// A distinguisher in hexadecimal digits, and a prefix.
+pub(crate) fn key(alloc: Global, digits: &str, block: &str) -> Result<VpnKey, CaseFault> {
+    Ok(VpnKey {
+        rd: Rd(long_number(alloc, digits)?),
+        prefix: prefix(block)?,
+    })
 }
 
 /// A node's name, `@` and its address.

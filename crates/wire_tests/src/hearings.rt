@@ -3,12 +3,11 @@ ghost use Rattle.std.specs.Prelude.{◌≡◌};
 ghost use Rattle.bgp_session.specs.declared.event.State.TheVariants.{Idle};
 ghost use Rattle.item_wire.specs.declared.event.ItemState.TheVariants.{Idle as ItemIdle};
 
-use crate::fault::{CaseFault, told};
 use crate::messages::tell_octets;
-use crate::octets::{octets, push_slice};
 use crate::updates::push_deltas;
 use crate::{record_sessions, sessions};
 use bgp_session::{Cause, Session};
+use case_lines::{CaseFault, octets, push_slice, told};
 use item_wire::{Item, ItemRefusal, ItemSession, read_item};
 use node_items::HeardRecords;
 use node_routes::HeardRoutes;

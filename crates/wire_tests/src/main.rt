@@ -1,55 +1,24 @@
-//! Cases of messages, of records and of the sessions that they go over. Each line of standard input has one, with what is
-//! wanted of it; those that come to something else are printed, and then how many come to what is wanted.
+//! Cases of numbers, of messages and records as octets, of the sessions that they go over, and of the ends of the program. Each
+//! line of standard input has one, with what is wanted of it.
 #![tactic(auto)]
 
 mod cases;
-mod fault;
+mod ends;
 mod hearings;
-mod laws;
 mod memberships;
 mod messages;
-mod octets;
+mod numbers;
 mod record_sessions;
 mod records;
 mod restarts;
 mod sessions;
 mod updates;
 
-use crate::cases::{holds, is_passed_over};
-use ov_io::TextOut;
-use std::alloc::Global;
+use crate::cases::Kinds;
+use case_lines::print_all;
 use std::io;
 
-/// Whether the case of a line comes to what is wanted. What it comes to is printed where it does not.
-fn check(rt: &impl Print, alloc: Global, line: &str, told: &mut TextOut) -> io::Result<bool> {
-    match holds(alloc, line, told) {
-        Ok(true) => Ok(true),
-        Ok(false) => {
-            rt.println(line)?;
-            rt.println(told.octets().escape_ascii())?;
-            Ok(false)
-        }
-        Err(fault) => {
-            rt.println(line)?;
-            rt.println(fault)?;
-            Ok(false)
-        }
-    }
-}
-
 fn main(rt: HostRuntime) -> io::Result<()> {
-    laws::laws();
-    let mut told = TextOut::new(rt.alloc());
-    let mut count = 0u64;
-    let mut right = 0u64;
-    for line in rt.lines(rt.alloc()) {
-        let line = line?;
-        if !is_passed_over(line.as_str()) {
-            count = count.saturating_add(1);
-            if check(&rt, rt.alloc(), line.as_str(), &mut told)? {
-                right = right.saturating_add(1);
-            }
-        }
-    }
-    println!(rt; "{right} of {count} cases hold")
+    let text = io::read_to_string(rt.alloc(), rt.stdin())?;
+    print_all(&rt, rt.alloc(), text.as_str(), &mut Kinds)
 }

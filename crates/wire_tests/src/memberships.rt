@@ -2,11 +2,10 @@
 ghost use Rattle.std.specs.Prelude.{IfOk};
 ghost use Rattle.rt_membership.specs.Asked.{AreAsked};
 
-use crate::fault::{CaseFault, told};
 use crate::messages::push_fault;
-use crate::octets::{octets, push_octets};
 use bgp_vpn::UpdateFault;
 use bgp_wire::UpdatePart;
+use case_lines::{CaseFault, octets, push_digits, told};
 use ov_io::TextOut;
 use ov_sync::Delta;
 use ov_types::{Addr, NoMemory};
@@ -88,7 +87,7 @@ fn tell_written(
         [delta] => {
             let mut message = Vec::new(alloc);
             write_membership(alloc, delta, NEXT_HOP, &mut message)?;
-            told(push_octets(message.as_slice(), out))
+            told(push_digits(message.as_slice(), out))
         }
         _ => Err(CaseFault::Unreadable),
     }

@@ -1,12 +1,11 @@
 //! What messages say that come in octets.
 ghost use Rattle.std.specs.Prelude.{◌≢◌};
 
-use crate::fault::{CaseFault, told};
-use crate::octets::{octets, push_octets};
 use bgp_wire::{
     Attribute, Message, OpenOut, OpenPart, UpdatePart, WireFault, attributes, read_message,
     write_attributes, write_keepalive, write_notification, write_open,
 };
+use case_lines::{CaseFault, octets, push_digits, told};
 use ov_io::TextOut;
 use ov_types::{Addr, NoMemory};
 use std::alloc::Global;
@@ -91,7 +90,7 @@ fn push_times(hold: u16, id: Addr, out: &mut TextOut) -> Result<(), NoMemory> {
 
 fn push_capability(kind: u8, value: &[u8], out: &mut TextOut) -> Result<(), NoMemory> {
     write!(out, " {kind}:")?;
-    push_octets(value, out)
+    push_digits(value, out)
 }
 
 fn push_update(part: &UpdatePart<'_>, out: &mut TextOut) -> Result<(), NoMemory> {
@@ -102,13 +101,13 @@ fn push_update(part: &UpdatePart<'_>, out: &mut TextOut) -> Result<(), NoMemory>
 
 fn push_withdrawn(withdrawn: &[u8], out: &mut TextOut) -> Result<(), NoMemory> {
     out.push(b"update ")?;
-    push_octets(withdrawn, out)?;
+    push_digits(withdrawn, out)?;
     out.push(b"|")
 }
 
 fn push_routes(routes: &[u8], out: &mut TextOut) -> Result<(), NoMemory> {
     out.push(b"|")?;
-    push_octets(routes, out)
+    push_digits(routes, out)
 }
 
 fn push_attributes(part: &UpdatePart<'_>, out: &mut TextOut) -> Result<(), NoMemory> {
@@ -133,7 +132,7 @@ fn push_attribute(attribute: &Attribute<'_>, out: &mut TextOut) -> Result<(), No
 }
 
 fn push_value(value: &[u8], out: &mut TextOut) -> Result<(), NoMemory> {
-    push_octets(value, out)?;
+    push_digits(value, out)?;
     out.push(b" ")
 }
 
@@ -142,7 +141,7 @@ fn push_written_open(alloc: Global, part: &OpenOut, out: &mut TextOut) -> Result
 {
     let mut octets = Vec::new(alloc);
     write_open(alloc, part, &mut octets)?;
-    push_octets(octets.as_slice(), out)
+    push_digits(octets.as_slice(), out)
 }
 
 /// The OPEN of a system and an identifier, as two numbers.
@@ -179,7 +178,7 @@ fn write_rest(alloc: Global, octets: &mut Vec<u8>) -> Result<(), NoMemory> {
 
 fn push_rest(alloc: Global, octets: &mut Vec<u8>, out: &mut TextOut) -> Result<(), NoMemory> {
     write_rest(alloc, octets)?;
-    push_octets(octets.as_slice(), out)
+    push_digits(octets.as_slice(), out)
 }
 
 /// A NOTIFICATION, a KEEPALIVE and an UPDATE of one attribute behind the octets that are given.

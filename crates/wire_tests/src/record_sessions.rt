@@ -2,8 +2,8 @@
 ghost use Rattle.std.specs.Prelude.{◌≡◌, IfOk};
 ghost use Rattle.item_wire.specs.declared.event.ItemState.TheVariants.{Idle};
 
-use crate::fault::{CaseFault, told};
 use crate::records::{push_fault, push_item};
+use case_lines::{CaseFault, told};
 use item_wire::{
     Item, ItemCause, ItemEvent, ItemFrom, ItemRefusal, ItemSession, ItemState, TooLong, read_item,
 };

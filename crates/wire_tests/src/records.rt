@@ -3,8 +3,7 @@ ghost use Rattle.std.specs.Prelude.{◌≤◌, length, IsTrue};
 ghost use Rattle.item_wire.specs.Ranges.{is_in_range};
 ghost use Rattle.item_wire.specs.Records.{json_text};
 
-use crate::fault::{CaseFault, told};
-use crate::octets::{octets, push_octets};
+use case_lines::{CaseFault, octets, push_digits, told};
 use item_wire::{Item, ItemFault, ItemRefusal, TooLong, frame, read_item, write_item};
 use ov_io::TextOut;
 use ov_types::NoMemory;
@@ -47,7 +46,7 @@ pub(crate) fn push_fault(fault: ItemFault, out: &mut TextOut) -> Result<(), NoMe
 fn push_framed(octets: &[u8], out: &mut TextOut) -> Result<(), NoMemory> {
     match frame(octets) {
         Ok(Some([])) => out.push(b"-"),
-        Ok(Some(record)) => push_octets(record, out),
+        Ok(Some(record)) => push_digits(record, out),
         framed => push_frame(framed, out),
     }
 }

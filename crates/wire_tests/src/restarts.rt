@@ -1,14 +1,13 @@
 //! What becomes of the routes of a peer over the losses of its session.
 
-use crate::fault::CaseFault;
 use crate::messages::push_fault;
-use crate::octets::octets;
 use crate::updates::push_key;
 use bgp_restart::{Restart, is_end, kept, named};
 use bgp_vpn::UpdateFault;
-use bgp_wire::{Message, UpdatePart, read_message};
+use bgp_wire::{Message, OpenPart, UpdatePart, read_message};
+use case_lines::{CaseFault, octets, told};
 use ov_io::TextOut;
-use ov_types::NoMemory;
+use ov_types::{Label, NoMemory, VpnKey, VpnRoute};
 use std::alloc::Global;
 
 /// The route of 10.1.0.5/32, distinguisher 192.0.2.11:1, is put, with label 23.
@@ -39,28 +38,43 @@ static WRONG: &str = "M 001b 02 0000 0004 40010103";
 /// Whether an OPEN names the routes, and whether their peer kept them; of an UPDATE, whether it marks their end.
 pub(crate) fn tell_marks(alloc: Global, given: &str, out: &mut TextOut) -> Result<(), CaseFault> {
     let octets = octets(alloc, given)?;
-    match read_message(octets.as_slice()) {
-        Ok(Some((Message::Hello(part), _))) => {
-            out.push(if named(&part) { b"named" } else { b"-" })?;
-            out.push(if kept(&part) { b" kept" } else { b" -" })?;
-        }
-        Ok(Some((Message::Update(part), _))) => {
-            out.push(if is_end(&part) { b"end" } else { b"no end" })?;
-        }
-        _ => return Err(CaseFault::Unreadable),
+    push_marks(octets.as_slice(), out)
+}
+
+fn push_marks(octets: &[u8], out: &mut TextOut) -> Result<(), CaseFault> {
+    match read_message(octets) {
+        Ok(Some((Message::Hello(part), _))) => told(push_named(&part, out)),
+        Ok(Some((Message::Update(part), _))) => told(push_end(&part, out)),
+        _ => Err(CaseFault::Unreadable),
     }
-    Ok(())
+}
+
+fn push_named(part: &OpenPart<'_>, out: &mut TextOut) -> Result<(), NoMemory> {
+    out.push(if named(part) { b"named" } else { b"-" })?;
+    out.push(if kept(part) { b" kept" } else { b" -" })
+}
+
+fn push_end(part: &UpdatePart<'_>, out: &mut TextOut) -> Result<(), NoMemory> {
+    out.push(if is_end(part) { b"end" } else { b"no end" })
 }
 
 /// What is held after each event, which stand between semicolons.
 pub(crate) fn tell_restart(alloc: Global, given: &str, out: &mut TextOut) -> Result<(), CaseFault> {
     let mut restart = Restart::new(alloc);
+    tell_events(alloc, &mut restart, given, out)
+}
+
+fn tell_events(
+    alloc: Global,
+    restart: &mut Restart,
+    given: &str,
+    out: &mut TextOut,
+) -> Result<(), CaseFault> {
     for event in given.split(";") {
-        take(alloc, &mut restart, event.trim(), out)?;
-        push_held(&restart, out)?;
-        out.push(b"; ")?;
+        take(alloc, restart, event.trim(), out)?;
+        tell_held(restart, out)?;
     }
-    Ok(out.push(if restart.is_up() { b"up" } else { b"down" })?)
+    told(out.push(if restart.is_up() { b"up" } else { b"down" }))
 }
 
 /// The octets of an UPDATE that has a name.
@@ -91,15 +105,26 @@ fn take(
         "opened named" if !restart.is_up() => restart.opened(true, false, false),
         "opened kept" if !restart.is_up() => restart.opened(true, true, false),
         "opened wide" if !restart.is_up() => restart.opened(true, true, true),
-        _ => {
-            let octets = octets(alloc, spelled(event))?;
-            match read_message(octets.as_slice()) {
-                Ok(Some((Message::Update(part), _))) => hear(restart, &part, out)?,
-                _ => return Err(CaseFault::Unreadable),
-            }
-        }
+        _ => return take_update(alloc, restart, spelled(event), out),
     }
     Ok(())
+}
+
+fn take_update(
+    alloc: Global,
+    restart: &mut Restart,
+    spelled: &str,
+    out: &mut TextOut,
+) -> Result<(), CaseFault> {
+    let octets = octets(alloc, spelled)?;
+    hear_octets(restart, octets.as_slice(), out)
+}
+
+fn hear_octets(restart: &mut Restart, octets: &[u8], out: &mut TextOut) -> Result<(), CaseFault> {
+    match read_message(octets) {
+        Ok(Some((Message::Update(part), _))) => hear(restart, &part, out),
+        _ => Err(CaseFault::Unreadable),
+    }
 }
 
 fn hear(restart: &mut Restart, part: &UpdatePart<'_>, out: &mut TextOut) -> Result<(), CaseFault> {
@@ -108,25 +133,43 @@ fn hear(restart: &mut Restart, part: &UpdatePart<'_>, out: &mut TextOut) -> Resu
     }
     match restart.update(part) {
         Ok(()) => Ok(()),
-        Err(UpdateFault::Wire(fault)) => Ok(push_fault(fault, out)?),
+        Err(UpdateFault::Wire(fault)) => told(push_fault(fault, out)),
         Err(UpdateFault::NoMemory) => Err(CaseFault::NoMemory),
     }
 }
 
 /// Each route that is held, as `rows` and `held` have it.
-fn push_held(restart: &Restart, out: &mut TextOut) -> Result<(), CaseFault> {
+fn tell_held(restart: &Restart, out: &mut TextOut) -> Result<(), CaseFault> {
     let rows = restart.rows()?;
-    for (key, route, is_stale) in rows.as_slice() {
-        let label = route.label;
-        push_key(b"", key, out)?;
-        write!(out, " {label} ")?;
-        push_mark(*is_stale, out)?;
-        if let Some((_, is_stale)) = restart.held(key) {
-            out.push(b"/")?;
-            push_mark(is_stale, out)?;
-        }
+    told(push_rows(restart, rows.as_slice(), out))
+}
+
+fn push_rows(
+    restart: &Restart,
+    rows: &[(VpnKey, VpnRoute, bool)],
+    out: &mut TextOut,
+) -> Result<(), NoMemory> {
+    for (key, route, is_stale) in rows {
+        push_row(key, route.label, *is_stale, out)?;
+        push_held(restart, key, out)?;
     }
-    Ok(())
+    out.push(b"; ")
+}
+
+fn push_row(key: &VpnKey, label: Label, is_stale: bool, out: &mut TextOut) -> Result<(), NoMemory> {
+    push_key(b"", key, out)?;
+    write!(out, " {label} ")?;
+    push_mark(is_stale, out)
+}
+
+fn push_held(restart: &Restart, key: &VpnKey, out: &mut TextOut) -> Result<(), NoMemory> {
+    match restart.held(key) {
+        Some((_, is_stale)) => {
+            out.push(b"/")?;
+            push_mark(is_stale, out)
+        }
+        None => Ok(()),
+    }
 }
 
 fn push_mark(is_stale: bool, out: &mut TextOut) -> Result<(), NoMemory> {

@@ -1,10 +1,9 @@
 //! What sessions of BGP do at their inputs.
 
-use crate::fault::{CaseFault, told};
-use crate::octets::octets;
 use crate::updates::push_deltas;
 use bgp_session::{Cause, Reply, Session, SessionEvent, State};
 use bgp_wire::{WireFault, read_message};
+use case_lines::{CaseFault, octets, told};
 use ov_io::TextOut;
 use ov_types::{Addr, Name, NoMemory, NodeId};
 use std::alloc::Global;

@@ -1,11 +1,10 @@
 //! What UPDATEs change.
 ghost use Rattle.std.specs.Prelude.{◌≡◌};
 
-use crate::fault::{CaseFault, told};
 use crate::messages::push_fault;
-use crate::octets::{octets, push_octets};
 use bgp_vpn::{UpdateFault, read_update, write_update};
 use bgp_wire::UpdatePart;
+use case_lines::{CaseFault, octets, push_digits, told};
 use ov_io::TextOut;
 use ov_sync::Delta;
 use ov_types::{Addr, Label, NoMemory, Prefix, Rd, Target, Targets, VpnKey, VpnRoute};
@@ -164,7 +163,7 @@ fn push_written(
     out: &mut TextOut,
 ) -> Result<(), NoMemory> {
     write_all(alloc, network, octets)?;
-    push_octets(octets.as_slice(), out)
+    push_digits(octets.as_slice(), out)
 }
 
 /// UPDATEs behind the octets that are given: a put with a target, one without of 10.1.0.0/16, and a drop.

@@ -1,13 +1,17 @@
 //! Octets, as cases spell them.
 
 use crate::fault::CaseFault;
+use crate::words::short_number;
 use ov_io::TextOut;
 use ov_types::NoMemory;
 use std::alloc::Global;
 
+/// The octets that a message of BGP begins with.
+pub static MARKER: [u8; 16] = [255; 16];
+
 /// The octets of some words: pairs of hexadecimal digits, `M` for a marker of a message, and a pair, `*` and a number for
 /// so many octets.
-pub(crate) fn octets(alloc: Global, text: &str) -> Result<Vec<u8>, CaseFault> {
+pub fn octets(alloc: Global, text: &str) -> Result<Vec<u8>, CaseFault> {
     let mut octets = Vec::new(alloc);
     match push_words(alloc, text, &mut octets) {
         Ok(()) => Ok(octets),
@@ -15,7 +19,8 @@ pub(crate) fn octets(alloc: Global, text: &str) -> Result<Vec<u8>, CaseFault> {
     }
 }
 
-fn push_words(alloc: Global, text: &str, octets: &mut Vec<u8>) -> Result<(), CaseFault> {
+/// Appends the octets of some words.
+pub fn push_words(alloc: Global, text: &str, octets: &mut Vec<u8>) -> Result<(), CaseFault> {
     for word in text.split_whitespace() {
         push_word(alloc, word, octets)?;
     }
@@ -24,37 +29,10 @@ fn push_words(alloc: Global, text: &str, octets: &mut Vec<u8>) -> Result<(), Cas
 
 fn push_word(alloc: Global, word: &str, octets: &mut Vec<u8>) -> Result<(), CaseFault> {
     match word.split_once("*") {
-        Some((pair, count)) => push_counted(alloc, pair, count, octets),
+        Some((pair, count)) => push_times(alloc, pair, short_number(count)?, octets),
         None if word == "M" => push_slice(&MARKER, octets),
         None => push_pairs(alloc, word, octets),
     }
-}
-
-static MARKER: [u8; 16] = [255; 16];
-
-/// Appends octets.
-pub(crate) fn push_slice(more: &[u8], octets: &mut Vec<u8>) -> Result<(), CaseFault> {
-    match octets.extend_from_slice(more) {
-        Ok(()) => Ok(()),
-        Err(_) => Err(CaseFault::NoMemory),
-    }
-}
-
-fn push_counted(
-    alloc: Global,
-    pair: &str,
-    count: &str,
-    octets: &mut Vec<u8>,
-) -> Result<(), CaseFault> {
-    match count.parse() {
-        Ok(count) => push_times(alloc, pair, count, octets),
-        Err(_) => Err(CaseFault::Unreadable),
-    }
-}
-
-fn push_pairs(alloc: Global, pairs: &str, octets: &mut Vec<u8>) -> Result<(), CaseFault> {
-    let more = hex::decode(alloc, pairs)?;
-    push_slice(more.as_slice(), octets)
 }
 
 fn push_times(
@@ -69,8 +47,21 @@ fn push_times(
     Ok(())
 }
 
+fn push_pairs(alloc: Global, pairs: &str, octets: &mut Vec<u8>) -> Result<(), CaseFault> {
+    let more = hex::decode(alloc, pairs)?;
+    push_slice(more.as_slice(), octets)
+}
+
+/// Appends octets.
+pub fn push_slice(more: &[u8], octets: &mut Vec<u8>) -> Result<(), CaseFault> {
+    match octets.extend_from_slice(more) {
+        Ok(()) => Ok(()),
+        Err(_) => Err(CaseFault::NoMemory),
+    }
+}
+
 /// Tells octets as pairs of digits.
-pub(crate) fn push_octets(octets: &[u8], out: &mut TextOut) -> Result<(), NoMemory> {
+pub fn push_digits(octets: &[u8], out: &mut TextOut) -> Result<(), NoMemory> {
     for octet in octets {
         write!(out, "{octet:02x}")?;
     }

@@ -1,13 +1,14 @@
-//! Why a step has no answer.
+//! Why a case has no answer.
 
 use hex::FromHexError;
+use ov_io::WriteRefusal;
 use ov_types::NoMemory;
 use std::alloc::{AllocError, AllocFailed};
 use std::fmt;
 
 #[derive(Clone, Copy)]
-pub(crate) enum CaseFault {
-    /// The step is not spelled as its word wants it.
+pub enum CaseFault {
+    /// The case is not spelled as its kind wants it.
     Unreadable,
     NoMemory,
 }
@@ -15,8 +16,8 @@ pub(crate) enum CaseFault {
 impl fmt::Display for CaseFault {
     fn fmt<W: fmt::Write>(&self, f: &mut fmt::Formatter<W>) -> fmt::Result {
         match self {
-            CaseFault::Unreadable => write!(f, "the step can't be read"),
-            CaseFault::NoMemory => write!(f, "no memory"),
+            CaseFault::Unreadable => f.write_str("the case can't be read"),
+            CaseFault::NoMemory => f.write_str("no memory"),
         }
     }
 }
@@ -45,8 +46,15 @@ impl From<FromHexError> for CaseFault {
     }
 }
 
+/// A sink over memory fails only where there is none.
+impl From<WriteRefusal> for CaseFault {
+    fn from(_e: WriteRefusal) -> CaseFault {
+        CaseFault::NoMemory
+    }
+}
+
 /// What telling came to.
-pub(crate) fn told(answer: Result<(), NoMemory>) -> Result<(), CaseFault> {
+pub fn told(answer: Result<(), NoMemory>) -> Result<(), CaseFault> {
     match answer {
         Ok(()) => Ok(()),
         Err(_) => Err(CaseFault::NoMemory),

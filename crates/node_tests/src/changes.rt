@@ -3,8 +3,8 @@ ghost use Rattle.std.specs.Prelude.{IfOk};
 ghost use Rattle.ov_types.specs.declared.objects.LowKey.TheVariants as low;
 ghost use Rattle.vpn_tables.specs.Ranges.{Fits};
 
-use crate::fault::CaseFault;
-use crate::words::{address, both, instance, key, long_number, number, prefix, short_number};
+use crate::words::{instance, key, prefix};
+use case_lines::{CaseFault, address, both, long_number, number, short_number};
 use ov_sync::Delta;
 use ov_types::{
     Addr, InstanceId, Items, Label, LowKey, LowValue, PortNo, Prefix, ServiceNo, Target, Targets,
