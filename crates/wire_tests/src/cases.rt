@@ -1,9 +1,6 @@
 //! The kinds of cases.
 
-use crate::{
-    ends, hearings, memberships, messages, numbers, record_sessions, records, restarts, sessions,
-    updates,
-};
+use crate::{ends, memberships, messages, numbers, record_sessions, records, sessions, updates};
 use case_lines::{CaseFault, Cases, both};
 use ov_io::TextOut;
 use std::alloc::Global;
@@ -27,34 +24,12 @@ impl Cases for Kinds {
 fn tell(alloc: Global, kind: &str, given: &str, out: &mut TextOut) -> Result<(), CaseFault> {
     match kind {
         "message" => messages::tell_message(alloc, given, out),
-        "size" => messages::tell_size(alloc, given, out),
-        "written-open" => messages::tell_written_open(alloc, given, out),
-        "written-rest" => messages::tell_written_rest(alloc, given, out),
-        "update" => updates::tell_update(alloc, false, given, out),
-        "wide-update" => updates::tell_update(alloc, true, given, out),
-        "written-updates" => updates::tell_written_updates(alloc, given, out),
-        "memberships" => memberships::tell_memberships(alloc, given, out),
-        "written-membership" => memberships::tell_written_membership(alloc, given, out),
-        _ => tell_session(alloc, kind, given, out),
-    }
-}
-
-/// What a case of records or of sessions comes to.
-fn tell_session(
-    alloc: Global,
-    kind: &str,
-    given: &str,
-    out: &mut TextOut,
-) -> Result<(), CaseFault> {
-    match kind {
         "session" => sessions::tell_session(alloc, given, out),
+        "written-update" => updates::tell_written(alloc, given, out),
+        "written-membership" => memberships::tell_written(alloc, given, out),
         "record" => records::tell_record(alloc, given, out),
         "frame" => records::tell_frame(alloc, given, out),
         "records" => record_sessions::tell_session(alloc, given, out),
-        "hearing" => hearings::tell_messages(alloc, given, out),
-        "hearing-records" => hearings::tell_records(alloc, given, out),
-        "marks" => restarts::tell_marks(alloc, given, out),
-        "restart" => restarts::tell_restart(alloc, given, out),
         _ => tell_plain(alloc, kind, given, out),
     }
 }

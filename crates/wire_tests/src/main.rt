@@ -4,13 +4,11 @@
 
 mod cases;
 mod ends;
-mod hearings;
 mod memberships;
 mod messages;
 mod numbers;
 mod record_sessions;
 mod records;
-mod restarts;
 mod sessions;
 mod updates;
 

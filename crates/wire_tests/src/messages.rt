@@ -1,16 +1,12 @@
 //! What messages say that come in octets.
-ghost use Rattle.std.specs.Prelude.{◌≢◌};
 
-use bgp_wire::{
-    Attribute, Message, OpenOut, OpenPart, UpdatePart, WireFault, attributes, read_message,
-    write_attributes, write_keepalive, write_notification, write_open,
-};
+use bgp_wire::{Attribute, Message, OpenPart, UpdatePart, WireFault, attributes, read_message};
 use case_lines::{CaseFault, octets, push_digits, told};
 use ov_io::TextOut;
 use ov_types::{Addr, NoMemory};
 use std::alloc::Global;
 
-pub(crate) fn push_fault(fault: WireFault, out: &mut TextOut) -> Result<(), NoMemory> {
+fn push_fault(fault: WireFault, out: &mut TextOut) -> Result<(), NoMemory> {
     let WireFault { code, subcode } = fault;
     write!(out, "fault {code}/{subcode}")
 }
@@ -18,36 +14,15 @@ pub(crate) fn push_fault(fault: WireFault, out: &mut TextOut) -> Result<(), NoMe
 /// The message that the octets begin with, and how many of them it has.
 pub(crate) fn tell_message(alloc: Global, given: &str, out: &mut TextOut) -> Result<(), CaseFault> {
     let octets = octets(alloc, given)?;
-    told(tell_octets(octets.as_slice(), out))
+    told(push_first(octets.as_slice(), out))
 }
 
-pub(crate) fn tell_octets(octets: &[u8], out: &mut TextOut) -> Result<(), NoMemory> {
+fn push_first(octets: &[u8], out: &mut TextOut) -> Result<(), NoMemory> {
     match read_message(octets) {
         Ok(Some((message, len))) => push_message(&message, len, out),
         Ok(None) => out.push(b"more"),
         Err(fault) => push_fault(fault, out),
     }
-}
-
-fn push_size(octets: &[u8], out: &mut TextOut) -> Result<(), NoMemory> {
-    match read_message(octets) {
-        Ok(Some((message, len))) => push_word(&message, len, out),
-        _ => out.push(b"another"),
-    }
-}
-
-fn push_word(message: &Message<'_>, len: usize, out: &mut TextOut) -> Result<(), NoMemory> {
-    match message {
-        Message::Hello(_) => write!(out, "open {len}"),
-        Message::Update(_) => write!(out, "update {len}"),
-        _ => out.push(b"another"),
-    }
-}
-
-/// Whether the octets are an OPEN or an UPDATE, and their number.
-pub(crate) fn tell_size(alloc: Global, given: &str, out: &mut TextOut) -> Result<(), CaseFault> {
-    let octets = octets(alloc, given)?;
-    told(push_size(octets.as_slice(), out))
 }
 
 fn push_message(message: &Message<'_>, len: usize, out: &mut TextOut) -> Result<(), NoMemory> {
@@ -134,59 +109,4 @@ fn push_attribute(attribute: &Attribute<'_>, out: &mut TextOut) -> Result<(), No
 fn push_value(value: &[u8], out: &mut TextOut) -> Result<(), NoMemory> {
     push_digits(value, out)?;
     out.push(b" ")
-}
-
-fn push_written_open(alloc: Global, part: &OpenOut, out: &mut TextOut) -> Result<(), NoMemory>
-    requires { part.now.id.0 ≢ 0 }
-{
-    let mut octets = Vec::new(alloc);
-    write_open(alloc, part, &mut octets)?;
-    push_digits(octets.as_slice(), out)
-}
-
-/// The OPEN of a system and an identifier, as two numbers.
-pub(crate) fn tell_written_open(
-    alloc: Global,
-    given: &str,
-    out: &mut TextOut,
-) -> Result<(), CaseFault> {
-    match open_of(given) {
-        Some(part) => tell_open(alloc, &part, out),
-        None => Err(CaseFault::Unreadable),
-    }
-}
-
-fn open_of(given: &str) -> Option<OpenOut> {
-    let (asn, id) = given.split_once(" ")?;
-    let asn = asn.parse().ok()?;
-    let id = Addr(id.parse().ok()?);
-    Some(OpenOut { asn, id })
-}
-
-fn tell_open(alloc: Global, part: &OpenOut, out: &mut TextOut) -> Result<(), CaseFault> {
-    if part.id.0 == 0 {
-        return Err(CaseFault::Unreadable);
-    }
-    told(push_written_open(alloc, part, out))
-}
-
-fn write_rest(alloc: Global, octets: &mut Vec<u8>) -> Result<(), NoMemory> {
-    write_notification(alloc, 5, 0, octets)?;
-    write_keepalive(alloc, octets)?;
-    write_attributes(alloc, &[0x40, 1, 1, 0], octets)
-}
-
-fn push_rest(alloc: Global, octets: &mut Vec<u8>, out: &mut TextOut) -> Result<(), NoMemory> {
-    write_rest(alloc, octets)?;
-    push_digits(octets.as_slice(), out)
-}
-
-/// A NOTIFICATION, a KEEPALIVE and an UPDATE of one attribute behind the octets that are given.
-pub(crate) fn tell_written_rest(
-    alloc: Global,
-    given: &str,
-    out: &mut TextOut,
-) -> Result<(), CaseFault> {
-    let mut octets = octets(alloc, given)?;
-    told(push_rest(alloc, &mut octets, out))
 }

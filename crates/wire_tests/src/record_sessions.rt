@@ -1,6 +1,4 @@
 //! What sessions of records do at their inputs.
-ghost use Rattle.std.specs.Prelude.{◌≡◌, IfOk};
-ghost use Rattle.item_wire.specs.declared.event.ItemState.TheVariants.{Idle};
 
 use crate::records::{push_fault, push_item};
 use case_lines::{CaseFault, told};
@@ -71,19 +69,17 @@ fn tell_of(alloc: Global, word: &str, inputs: &str, out: &mut TextOut) -> Result
     tell_inputs(alloc, &mut session, inputs, out)
 }
 
-pub(crate) fn peer() -> Result<Name, CaseFault> {
+fn peer() -> Result<Name, CaseFault> {
     Name::new("c1").ok_or(CaseFault::Unreadable)
 }
 
 /// A session with `c1`, which may send records of this direction.
-pub(crate) fn session_of(word: &str) -> Result<ItemSession, CaseFault>
-    ensures { IfOk result (λ session. session.state ≡ Idle) }
-{
+fn session_of(word: &str) -> Result<ItemSession, CaseFault> {
     let from = direction(word).ok_or(CaseFault::Unreadable)?;
     Ok(ItemSession::new(peer()?, from))
 }
 
-pub(crate) fn name_of(state: ItemState) -> &'static [u8] {
+fn name_of(state: ItemState) -> &'static [u8] {
     match state {
         ItemState::Idle => b"Idle",
         ItemState::Opened => b"Opened",
@@ -149,7 +145,7 @@ fn word_of(is_same: bool) -> &'static [u8] {
     }
 }
 
-pub(crate) fn push_down(cause: ItemCause, out: &mut TextOut) -> Result<(), NoMemory> {
+fn push_down(cause: ItemCause, out: &mut TextOut) -> Result<(), NoMemory> {
     out.push(b"down ")?;
     match cause {
         ItemCause::Item(fault) => push_fault(fault, out),

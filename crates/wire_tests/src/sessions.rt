@@ -63,14 +63,14 @@ pub(crate) fn tell_session(alloc: Global, given: &str, out: &mut TextOut) -> Res
     tell_inputs(alloc, &mut session, given, out)
 }
 
-pub(crate) fn peer() -> Result<NodeId, CaseFault> {
+fn peer() -> Result<NodeId, CaseFault> {
     Ok(NodeId {
         name: Name::new("c2").ok_or(CaseFault::Unreadable)?,
         address: Addr(0xc000_0202),
     })
 }
 
-pub(crate) fn name_of(state: State) -> &'static [u8] {
+fn name_of(state: State) -> &'static [u8] {
     match state {
         State::Idle => b"Idle",
         State::OpenSent => b"OpenSent",
@@ -122,11 +122,7 @@ fn push_event(event: &SessionEvent, out: &mut TextOut) -> Result<(), NoMemory> {
     }
 }
 
-pub(crate) fn push_down(
-    cause: Cause,
-    reply: Option<(u8, u8)>,
-    out: &mut TextOut,
-) -> Result<(), NoMemory> {
+fn push_down(cause: Cause, reply: Option<(u8, u8)>, out: &mut TextOut) -> Result<(), NoMemory> {
     push_cause(cause, out)?;
     match reply {
         Some((code, subcode)) => write!(out, " send {code}/{subcode}"),
