@@ -7,8 +7,8 @@ use crate::words::{instance, key, prefix};
 use case_lines::{CaseFault, address, both, long_number, number, short_number};
 use ov_sync::Delta;
 use ov_types::{
-    Addr, InstanceId, Items, Label, LowKey, LowValue, PortNo, Prefix, ServiceNo, Target, Targets,
-    UpKey, VpnKey, VpnRoute,
+    Addr, InstanceId, Items, Label, LowKey, LowValue, Prefix, ServiceNo, Target, Targets, UpKey,
+    VpnKey, VpnRoute,
 };
 use std::alloc::Global;
 use vpn_stored_rows::StoredTables;
@@ -26,32 +26,16 @@ pub(crate) fn change(
 ) -> Result<(), CaseFault> {
     let (word, given) = step.split_once(" ").unwrap_or((step, ""));
     match word {
-        "chain" | "network" | "port" | "list" => feed(alloc, tables, word, given),
-        "agent" | "publish" | "withdraw" | "subscribe" => hear(tables, word, given),
+        "chain" => feed_chain(alloc, tables, given),
+        "network" => feed_network(alloc, tables, given),
         "lead" => lead(alloc, tables, given),
         "unlead" => unlead(alloc, tables, given),
-        "relate" => relate(alloc, tables, given),
         "lose" => {
             tables.drop_session(short_number(given)?);
             Ok(())
         }
         "store" => Ok(tables.refresh()?),
-        _ => Err(CaseFault::Unreadable),
-    }
-}
-
-/// The feed tells an object.
-fn feed(
-    alloc: Global,
-    tables: &mut StoredTables,
-    word: &str,
-    given: &str,
-) -> Result<(), CaseFault> {
-    match word {
-        "chain" => feed_chain(alloc, tables, given),
-        "network" => feed_network(alloc, tables, given),
-        "port" => feed_port(tables, address(given)?),
-        _ => feed_list(alloc, tables, given),
+        _ => hear(tables, word, given),
     }
 }
 
@@ -100,41 +84,8 @@ fn feed_network(alloc: Global, tables: &mut StoredTables, given: &str) -> Result
     let (network, imported) = both(given)?;
     let network = short_number(network)?;
     let imports = instances(alloc, imported)?;
-    set_network(tables, network, imports)
-}
-
-fn set_network(
-    tables: &mut StoredTables,
-    network: u16,
-    imports: Items<InstanceId>,
-) -> Result<(), CaseFault> {
     let object = LowValue::Instance { imports };
     Ok(tables.set_low(Delta::Put(LowKey::Instance(network), object))?)
-}
-
-/// Port 1 of network 1 at the near agent.
-fn feed_port(tables: &mut StoredTables, address: Addr) -> Result<(), CaseFault> {
-    let port = LowValue::AttachPort {
-        port: PortNo(1),
-        instance: InstanceId(1),
-        address,
-        node: NEAR,
-    };
-    Ok(tables.set_low(Delta::Put(LowKey::Attach(17), port))?)
-}
-
-/// An access list with no entries, from a network to one.
-fn feed_list(alloc: Global, tables: &mut StoredTables, given: &str) -> Result<(), CaseFault> {
-    let (from, to) = both(given)?;
-    let key = LowKey::Acl {
-        from: short_number(from)?,
-        to: short_number(to)?,
-    };
-    let list = LowValue::Acl {
-        subnets: Items::new(alloc),
-        rules: Items::new(alloc),
-    };
-    Ok(tables.set_low(Delta::Put(key, list))?)
 }
 
 /// An agent comes to a session, or tells something on it.
@@ -145,10 +96,7 @@ fn hear(tables: &mut StoredTables, word: &str, given: &str) -> Result<(), CaseFa
         "agent" => Ok(tables.set_agent(session, address(rest)?)?),
         "publish" => Ok(tables.set_publication(session, publication(rest)?)?),
         "withdraw" => Ok(tables.set_publication(session, Delta::Drop(published(rest)?))?),
-        _ => {
-            let key = UpKey::Subscribe(instance(rest)?);
-            Ok(tables.set_publication(session, Delta::Put(key, Label(0)))?)
-        }
+        _ => Err(CaseFault::Unreadable),
     }
 }
 
@@ -199,40 +147,4 @@ fn lead(alloc: Global, tables: &mut StoredTables, given: &str) -> Result<(), Cas
 fn unlead(alloc: Global, tables: &mut StoredTables, given: &str) -> Result<(), CaseFault> {
     let (session, key) = led(alloc, given)?;
     Ok(tables.set_peer_route(session, Delta::Drop(key))?)
-}
-
-/// The agent of session 1 publishes eight ports in each of so many networks, of which each imports all.
-fn relate(alloc: Global, tables: &mut StoredTables, given: &str) -> Result<(), CaseFault> {
-    let count = short_number(given)?;
-    tables.set_agent(1, NEAR)?;
-    for network in 1..=count {
-        set_network(tables, network, all_networks(alloc, count)?)?;
-        publish_ports(tables, network)?;
-    }
-    Ok(())
-}
-
-fn all_networks(alloc: Global, count: u16) -> Result<Items<InstanceId>, CaseFault> {
-    let mut networks = Items::new(alloc);
-    match push_networks(&mut networks, count) {
-        Ok(()) => Ok(networks),
-        Err(fault) => Err(fault),
-    }
-}
-
-fn push_networks(networks: &mut Items<InstanceId>, count: u16) -> Result<(), CaseFault> {
-    for network in 1..=count {
-        networks.push(InstanceId(network))?;
-    }
-    Ok(())
-}
-
-fn publish_ports(tables: &mut StoredTables, network: u16) -> Result<(), CaseFault> {
-    for port in 0..8u32 {
-        let number = 8 * u32::from(network) + port;
-        let host = Addr(0x0a00_0000 + 256 * u32::from(network) + port);
-        let key = UpKey::Publish(InstanceId(network), Prefix::host(host));
-        tables.set_publication(1, Delta::Put(key, Label(16 + number)))?;
-    }
-    Ok(())
 }

@@ -8,7 +8,7 @@ use case_lines::{CaseFault, begin, told};
 use config_check::{EditRefusal, Valid, apply_edit, check};
 use config_model::{read_compile, read_edit};
 use config_node::ConfigNode;
-use config_types::{Edit, Node as ComputeNode, Port};
+use config_types::{Edit, Port};
 use ov_io::TextOut;
 use ov_link::{FailingLink, Input, Links};
 use ov_types::NoMemory;
@@ -83,17 +83,6 @@ fn push_ports(ports: &[Port], out: &mut TextOut) -> Result<(), NoMemory> {
     for port in ports {
         let name = port.name;
         let address = port.address;
-        begin(out)?;
-        write!(out, "{name}@{address}")?;
-    }
-    Ok(())
-}
-
-/// The names and addresses of compute nodes.
-fn push_nodes(nodes: &[ComputeNode], out: &mut TextOut) -> Result<(), NoMemory> {
-    for node in nodes {
-        let name = node.name;
-        let address = node.address;
         begin(out)?;
         write!(out, "{name}@{address}")?;
     }
@@ -179,7 +168,6 @@ impl Node for ConfigNode {
         match word {
             "edit" => edit(alloc, self, links, given, out),
             "ports" => told(push_ports(self.valid().config().ports.as_slice(), out)),
-            "nodes" => told(push_nodes(self.valid().topology().nodes.as_slice(), out)),
             "has-failed" => told(write!(out, "{}", self.failed())),
             "restart" => {
                 self.restart();

@@ -1,14 +1,13 @@
 //! Control nodes.
 
 use crate::answers::{push_done, push_session, push_stepped};
-use crate::listing::push_rows;
 use crate::nodes::Node;
 use crate::words::{id, ids};
-use case_lines::{CaseFault, both, number, short_number, told};
+use case_lines::{CaseFault, begin, both, number, short_number, told};
 use control_node::{ControlNode, ControlPlan};
 use ov_io::TextOut;
 use ov_link::{FailingLink, Input, Links};
-use ov_types::{Items, NodeId};
+use ov_types::{InstanceId, Items, NoMemory, NodeId, Prefix, TableRow};
 use std::alloc::Global;
 
 /// A control node of an autonomous system, with these peers and agents.
@@ -30,6 +29,15 @@ fn made_of(
         retired: Items::new(alloc),
     };
     Ok(ControlNode::new(alloc, plan)?)
+}
+
+/// The rows of instances.
+fn push_rows(rows: &[((InstanceId, Prefix), TableRow)], out: &mut TextOut) -> Result<(), NoMemory> {
+    for ((instance, prefix), row) in rows {
+        begin(out)?;
+        write!(out, "{instance} {prefix} {row}")?;
+    }
+    Ok(())
 }
 
 fn tell_rows(node: &ControlNode, out: &mut TextOut) -> Result<(), CaseFault> {

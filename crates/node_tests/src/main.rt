@@ -10,13 +10,11 @@ mod configs;
 mod controls;
 mod flows;
 mod links;
-mod listing;
 mod nodes;
 mod octets;
 mod questions;
 mod scene;
 mod tables;
-mod wanted;
 mod words;
 
 use crate::cases::play_all;

@@ -1,9 +1,7 @@
 //! Questions of tables.
 
-use crate::listing::push_key;
-use crate::wanted::ask_wanted;
 use crate::words::{instance, key, prefix};
-use case_lines::{CaseFault, begin, both, number, short_number, told};
+use case_lines::{CaseFault, begin, both, short_number, told};
 use ov_io::TextOut;
 use ov_sync::Delta;
 use ov_types::{InstanceId, NoMemory, Prefix, TableRow, VpnKey, VpnRoute};
@@ -23,9 +21,7 @@ pub(crate) fn ask(
         "rows" => tell_rows(tables, instance(given)?, out),
         "up" => tell_up(tables, given, out),
         "touched" => tell_touched(alloc, tables.held(), given, out),
-        "count" => tell_count(tables.held(), instance(given)?, out),
-        "publisher" => tell_publisher(tables.held(), number(given)?, out),
-        _ => ask_wanted(alloc, tables.held(), word, given, out),
+        _ => Err(CaseFault::Unreadable),
     }
 }
 
@@ -47,29 +43,12 @@ fn push_rows(rows: &[(Prefix, TableRow)], out: &mut TextOut) -> Result<(), NoMem
     Ok(())
 }
 
-/// How many rows an instance has.
-fn tell_count(
-    tables: &VpnTables,
-    instance: InstanceId,
-    out: &mut TextOut,
-) -> Result<(), CaseFault> {
-    let rows = tables.table(instance)?;
-    told(write!(out, "{}", rows.len()))
-}
-
 /// Whether a subnet is up at a place, seen from an end.
 fn tell_up(tables: &StoredTables, given: &str, out: &mut TextOut) -> Result<(), CaseFault> {
     let (end, rest) = both(given)?;
     let (place, subnet) = both(rest)?;
     let is_up = tables.up(instance(place)?, &prefix(subnet)?, end == "right");
     told(write!(out, "{is_up}"))
-}
-
-fn tell_publisher(tables: &VpnTables, circuit: u32, out: &mut TextOut) -> Result<(), CaseFault> {
-    match tables.publisher(circuit) {
-        Some((address, label)) => told(write!(out, "{address} {label}")),
-        None => Ok(()),
-    }
 }
 
 /// The rows and the keys that are touched where a peer withdraws a route.
@@ -118,8 +97,9 @@ fn push_touched_keys(
 }
 
 fn push_keys(keys: &[VpnKey], out: &mut TextOut) -> Result<(), NoMemory> {
-    for key in keys {
-        push_key(key, out)?;
+    for VpnKey { rd, prefix } in keys {
+        begin(out)?;
+        write!(out, "{rd} {prefix}")?;
     }
     Ok(())
 }

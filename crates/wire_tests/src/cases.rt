@@ -1,6 +1,6 @@
 //! The kinds of cases.
 
-use crate::{ends, memberships, messages, numbers, record_sessions, records, sessions, updates};
+use crate::{ends, memberships, numbers, record_sessions, records, sessions, updates};
 use case_lines::{CaseFault, Cases, both};
 use ov_io::TextOut;
 use std::alloc::Global;
@@ -23,7 +23,6 @@ impl Cases for Kinds {
 /// What a case of this kind comes to.
 fn tell(alloc: Global, kind: &str, given: &str, out: &mut TextOut) -> Result<(), CaseFault> {
     match kind {
-        "message" => messages::tell_message(alloc, given, out),
         "session" => sessions::tell_session(alloc, given, out),
         "written-update" => updates::tell_written(alloc, given, out),
         "written-membership" => memberships::tell_written(alloc, given, out),

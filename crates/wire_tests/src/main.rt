@@ -1,11 +1,10 @@
-//! Cases of numbers, of messages and records as octets, of the sessions that they go over, and of the ends of the program. Each
-//! line of standard input has one, with what is wanted of it.
+//! Cases of numbers, of messages that are written, of records, of sessions and of the ends of the program. Each line of standard
+//! input has one, with what is wanted of it.
 #![tactic(auto)]
 
 mod cases;
 mod ends;
 mod memberships;
-mod messages;
 mod numbers;
 mod record_sessions;
 mod records;
