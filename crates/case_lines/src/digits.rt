@@ -7,7 +7,12 @@ use ov_types::NoMemory;
 use std::alloc::Global;
 
 /// The octets that a message of BGP begins with.
-pub static MARKER: [u8; 16] = [255; 16];
+static MARKER: [u8; 16] = [255; 16];
+
+/// The octets behind a marker, where a message begins with one.
+pub fn behind_marker(octets: &[u8]) -> Option<&[u8]> {
+    octets.strip_prefix(&MARKER)
+}
 
 /// The octets of some words: pairs of hexadecimal digits, `M` for a marker of a message, and a pair, `*` and a number for
 /// so many octets.

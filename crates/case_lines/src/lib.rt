@@ -8,7 +8,7 @@ mod lines;
 mod tally;
 mod words;
 
-pub use digits::{MARKER, octets, push_digits, push_slice, push_words};
+pub use digits::{behind_marker, octets, push_digits, push_slice, push_words};
 pub use fault::{CaseFault, told};
 pub use lines::{Cases, begin, count_all, print_all};
 pub use tally::Tally;

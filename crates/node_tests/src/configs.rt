@@ -17,21 +17,30 @@ use std::alloc::Global;
 
 #[tactic(auto, using(crate::proofs::Forms::nodes_form))]
 fn valid_in(alloc: Global, value: &Value) -> Result<Valid, CaseFault> {
-    let input = read_compile(alloc, value)?;
-    check(alloc, input.topology, input.config)
-        .ok()
-        .ok_or(CaseFault::Unreadable)
+    match read_compile(alloc, value) {
+        Ok(input) => check(alloc, input.topology, input.config)
+            .ok()
+            .ok_or(CaseFault::Unreadable),
+        Err(_) => Err(CaseFault::Unreadable),
+    }
+}
+
+fn value_of(alloc: Global, text: &str) -> Result<Value, CaseFault> {
+    match Value::from_str(alloc, text) {
+        Ok(value) => Ok(value),
+        Err(_) => Err(CaseFault::Unreadable),
+    }
 }
 
 fn valid_of(alloc: Global, document: &str) -> Result<Valid, CaseFault> {
-    let value = Value::from_str(alloc, document)?;
+    let value = value_of(alloc, document)?;
     valid_in(alloc, &value)
 }
 
 fn edit_of(alloc: Global, text: &str) -> Result<Edit, CaseFault>
     ensures { IfOk result (λ edit. IsTrue (has_edit_form edit)) }
 {
-    let value = Value::from_str(alloc, text)?;
+    let value = value_of(alloc, text)?;
     match read_edit(alloc, &value) {
         Ok(edit) => Ok(edit),
         Err(_) => Err(CaseFault::Unreadable),

@@ -1,7 +1,7 @@
 //! Octets, as steps spell them: a record is its text, which stands behind its length, and a message of BGP is `M` for its marker
 //! and pairs of hexadecimal digits.
 
-use case_lines::{CaseFault, MARKER, push_digits, push_slice, push_words};
+use case_lines::{CaseFault, behind_marker, push_digits, push_slice, push_words};
 use ov_io::TextOut;
 use ov_types::NoMemory;
 use std::alloc::Global;
@@ -67,7 +67,7 @@ pub(crate) fn push_message(octets: &[u8], out: &mut TextOut) -> Result<(), NoMem
 }
 
 fn push_octets(octets: &[u8], out: &mut TextOut) -> Result<(), NoMemory> {
-    match octets.strip_prefix(&MARKER) {
+    match behind_marker(octets) {
         Some(rest) => {
             out.push(b"M ")?;
             push_digits(rest, out)
