@@ -10,4 +10,5 @@ pub mod Recent
 pub mod Replies
 pub mod Short
 pub mod Standing
+pub mod Telling
 pub mod Using

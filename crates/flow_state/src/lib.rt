@@ -1,12 +1,15 @@
 //! Replies: where a rule of one direction lets a packet through, what answers it passes too, while its flow stands in a
-//! table of bounded size. Steps of a replay of flows, their written form, and the exact reader of it.
+//! table of bounded size. Steps of a replay of flows, their written form, the exact reader of it, and the answer of `flows`.
 #![tactic(auto)]
 
 mod answer;
+mod answering;
 mod flow;
 pub mod laws;
+mod lines;
 mod passing;
 mod player;
+mod replaying;
 mod script_laws;
 mod script_reader;
 mod step;
@@ -15,6 +18,7 @@ mod towards;
 mod uses;
 
 pub use answer::FlowAnswer;
+pub use answering::answer_flows;
 pub use flow::Flow;
 pub use player::Player;
 pub use script_laws::{

@@ -4,7 +4,7 @@ use Rattle.ov_io.specs.Pieces.{TookFrontOf}
 use Rattle.ov_io.proofs.PieceLemmas.{took_nothing}
 use Rattle.constrain_answers.specs.Answers.{constrain_answer}
 use Rattle.compile_answers.specs.Answers.{compile_answer, reach_answer, scale_answer}
-use Rattle.flow_answers.specs.Answers.{flows_answer}
+use Rattle.flow_state.specs.Answers.{flows_answer}
 use Rattle.decode_answers.specs.Decoding.{spelled}
 use Rattle.decode_answers.proofs.Spelled.{text_spelled}
 use Rattle.graceful_answers.proofs.Written.{some_written}

@@ -3,7 +3,7 @@ use Rattle.std.specs.Prelude.{◌≡◌, ℕ, List}
 use Rattle.compile_answers.specs.declared.unfit.Reception.{Reception}
 use Rattle.compile_answers.specs.Answers.{compile_answer, reach_answer, scale_answer}
 use Rattle.constrain_answers.specs.Answers.{constrain_answer}
-use Rattle.flow_answers.specs.Answers.{flows_answer}
+use Rattle.flow_state.specs.Answers.{flows_answer}
 use Rattle.decode_answers.specs.Decoding.{WritesSpelled, decode_verdict, spelled}
 use Rattle.graceful_answers.specs.Answers.{WritesLog, graceful_verdict, log_in}
 use Rattle.gen_answers.specs.Answers.{gen_answer}

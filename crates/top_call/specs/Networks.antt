@@ -5,7 +5,7 @@ use Rattle.std.specs.declared.option.Option.TheVariants.{Some, None}
 use Rattle.std.specs.declared.result.Result.{Result}
 use Rattle.ov_io.specs.declared.pieces.WriteRefusal.{WriteRefusal}
 use Rattle.constrain_answers.specs.Networks.{IsLeftSettled, TookConstraint}
-use Rattle.flow_answers.specs.Answers.{TookReplies}
+use Rattle.flow_state.specs.Answers.{TookReplies}
 use Rattle.graceful_answers.specs.Answers.{TookLog}
 use Rattle.run_answers.specs.NetState.{NetState}
 use Rattle.compile_answers.specs.declared.unfit.Reception.{Reception}

@@ -9,7 +9,7 @@ use crate::command::Command;
 use compile_answers::{Reception, answer_compile, answer_reach, answer_scale};
 use constrain_answers::answer_constrain;
 use decode_answers::answer_decode;
-use flow_answers::answer_flows;
+use flow_state::answer_flows;
 use gen_answers::answer_gen;
 use graceful_answers::answer_graceful;
 use ov_io::{Sink, WriteRefusal};

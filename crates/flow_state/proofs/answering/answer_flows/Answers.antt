@@ -1,5 +1,5 @@
 use Rattle.std.proofs.Common.{rules}
-use Rattle.flow_answers.proofs.answering.answer_flows.Goals as goal
+use Rattle.flow_state.proofs.answering.answer_flows.Goals as goal
 
 pub returns-in_ok-write_replay-in-Ok-clause-promise : goal.returns-in_ok-write_replay-in-Ok-clause-promise
 returns-in_ok-write_replay-in-Ok-clause-promise g c = λ good. record {

@@ -1,9 +1,9 @@
 //! The line of what a step answers.
 ghost use Rattle.std.specs.Prelude.{◌≡◌, ◌++◌, OnOk, OnErr, Some};
-ghost use Rattle.flow_answers.specs.Lines.{flow_line, tied_fault_text};
+ghost use Rattle.flow_state.specs.Lines.{flow_line, tied_fault_text};
 
+use crate::answer::FlowAnswer;
 use config_check::EditFault;
-use flow_state::FlowAnswer;
 use ov_io::TextOut;
 use ov_types::NoMemory;
 use report::{LinesOf, OutcomeLines, did_lines};

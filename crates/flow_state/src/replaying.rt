@@ -6,11 +6,12 @@ ghost use Rattle.ov_io.specs.Inputs.{TookFront};
 ghost use Rattle.ov_io.specs.Pieces.{HasWriteCause};
 ghost use Rattle.flow_state.specs.Steps.{has_step_form};
 ghost use Rattle.flow_state.specs.Playing.{answers_in, playing};
-ghost use Rattle.flow_answers.specs.Lines.{flows_text, lines_from};
+ghost use Rattle.flow_state.specs.Lines.{flows_text, lines_from};
 
 use crate::lines::push_answer;
+use crate::player::Player;
+use crate::step::FlowStep;
 use config_check::Valid;
-use flow_state::{FlowStep, Player};
 use ov_io::{Sink, TextOut, WriteRefusal, write_gathered, write_piece};
 use std::alloc::Global;
 

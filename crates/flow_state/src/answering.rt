@@ -7,13 +7,14 @@ ghost use Rattle.compile_answers.specs.Answers.{WasGiven};
 ghost use Rattle.flow_state.specs.Steps.{flows_at, has_step_form};
 ghost use Rattle.flow_state.specs.Laws.{AreAnswered};
 ghost use Rattle.flow_state.specs.Replay.{answers, at_start};
-ghost use Rattle.flow_answers.specs.Answers.{FitsReplay, TookReplies, flows_answer, flows_taken, input_of};
+ghost use Rattle.flow_state.specs.Answers.{FitsReplay, TookReplies, flows_answer, flows_taken, input_of};
 
+use crate::laws::replays_are_answered;
 use crate::replaying::write_replay;
+use crate::script_reader::read_flows;
+use crate::step::{FlowStep, FlowsInput};
 use compile_answers::{Question, Reception, Unfit, read_question, valid_of, write_unfit};
 use config_check::Valid;
-use flow_state::laws::replays_are_answered;
-use flow_state::{FlowStep, FlowsInput, read_flows};
 use ov_io::{Sink, WriteRefusal};
 use ov_types::Items;
 use serde_json::Value;

@@ -3,7 +3,7 @@ use Rattle.std.proofs.Common.{◌≡◌, ◌∙◌, ℕ, ◌+◌, List, ◌∷�
 use Rattle.flow_state.specs.declared.step.FlowStep.{FlowStep}
 use Rattle.flow_state.specs.Playing.{Playing, answer_in, answers_in, played}
 use Rattle.flow_state.specs.declared.answer.FlowAnswer.{FlowAnswer}
-use Rattle.flow_answers.specs.Lines.{flow_line, lines_from}
+use Rattle.flow_state.specs.Lines.{flow_line, lines_from}
 
 -- the lines of some steps are that of the first and those of the others
 pub first_line : (n : ℕ) (xs more : List FlowStep) (x : FlowStep) (s t : Playing) (a : FlowAnswer) → xs ≡ x ∷ more

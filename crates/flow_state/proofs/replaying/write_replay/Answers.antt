@@ -3,8 +3,8 @@ use Rattle.std.specs.Prelude.{OnErr, OnOk}
 use Rattle.std.specs.Io.KnownBytes.{Appends}
 use Rattle.ov_io.specs.Inputs.{TookFront}
 use Rattle.flow_state.specs.declared.answer.FlowAnswer.{FlowAnswer}
-use Rattle.flow_answers.specs.Lines.{flows_text, lines_from}
-use Rattle.flow_answers.proofs.replaying.write_replay.Goals as goal
+use Rattle.flow_state.specs.Lines.{flows_text, lines_from}
+use Rattle.flow_state.proofs.replaying.write_replay.Goals as goal
 
 pub returns-clause-ok : goal.returns-clause-ok
 unfolding flows_text

@@ -3,8 +3,8 @@ use Rattle.std.specs.List.{list_all}
 use Rattle.ov_io.specs.Pieces.{IsOnItsWay}
 use Rattle.flow_state.specs.Steps.{has_step_form}
 use Rattle.flow_state.specs.Playing.{answers_in, playing}
-use Rattle.flow_answers.specs.Lines.{lines_from}
-use Rattle.flow_answers.proofs.replaying.write_steps.Given as goal
+use Rattle.flow_state.specs.Lines.{lines_from}
+use Rattle.flow_state.proofs.replaying.write_steps.Given as goal
 
 abbrev pub invariant-loop-index : goal.invariant-loop-index
 invariant-loop-index g l = record {

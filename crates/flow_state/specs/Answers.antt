@@ -11,8 +11,8 @@ use Rattle.flow_state.specs.declared.step.FlowStep.{FlowStep}
 use Rattle.flow_state.specs.Steps.{flows_at, has_step_form}
 use Rattle.flow_state.specs.Laws.{AreAnswered}
 use Rattle.flow_state.specs.Replay.{answers, at_start}
-use Rattle.flow_answers.specs.declared.answering.AskedReplay.{AskedReplay}
-use Rattle.flow_answers.specs.Lines.{flows_text}
+use Rattle.flow_state.specs.declared.answering.AskedReplay.{AskedReplay}
+use Rattle.flow_state.specs.Lines.{flows_text}
 
 -- `flows` takes a capacity and steps too
 unfoldable pub flows_taken : Data → Taken AskedReplay

@@ -7,8 +7,8 @@ use Rattle.ov_io.specs.Inputs.{TookFront}
 use Rattle.ov_io.specs.Pieces.{IsOnItsWay}
 use Rattle.flow_state.specs.Steps.{has_step_form}
 use Rattle.flow_state.specs.declared.step.FlowStep.{FlowStep}
-use Rattle.flow_answers.proofs.Telling.{first_line}
-use Rattle.flow_answers.proofs.replaying.write_steps.Goals as goal
+use Rattle.flow_state.proofs.Telling.{first_line}
+use Rattle.flow_state.proofs.replaying.write_steps.Goals as goal
 
 pub returns-in_err-answer-clause-front : goal.returns-in_err-answer-clause-front
 returns-in_err-answer-clause-front g c =
