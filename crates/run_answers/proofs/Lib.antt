@@ -1,2 +1,13 @@
+-- Lemmas, in the order in which they stand on each other: those of `run`, of `gen` and of `constrain`.
 pub mod Scheduled
 pub mod Ending
+pub mod Sameness
+pub mod Counting
+pub mod Agreeing
+pub mod Tracing
+pub mod Counted
+pub mod ScenarioEnding
+pub mod Summed
+pub mod Quiet
+pub mod Askings
+pub mod ConstraintEnding

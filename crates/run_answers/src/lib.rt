@@ -1,7 +1,23 @@
-//! The answer of `run`: a network takes the events of a schedule, and what they answer is written.
+//! The answers of the commands that run a network. `run`: it takes the events of a schedule, and what they answer is written.
+//! `gen`: it takes the events of a scenario and a trace of each of its packets, and what it answers is counted and summed up.
+//! `constrain`: it settles, and what each control node asks of its peers is written, with how much of what they would tell it
+//! they send then.
 #![tactic(auto)]
 
+mod asking;
+mod constraining;
+mod generating;
+pub mod laws;
 mod running;
+mod sending;
+mod tally;
+mod tallying;
+mod traces;
 
+pub use constraining::answer_constrain;
+pub use generating::answer_gen;
 pub use net_machine::{Net, leave_none};
 pub use running::answer_run;
+pub use tally::Tally;
+pub use tallying::{Ran, run_counted};
+pub use traces::with_traces;

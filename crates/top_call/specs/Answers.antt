@@ -2,11 +2,11 @@
 use Rattle.std.specs.Prelude.{◌≡◌, ℕ, List}
 use Rattle.compile_answers.specs.declared.unfit.Reception.{Reception}
 use Rattle.compile_answers.specs.Answers.{compile_answer, reach_answer, scale_answer}
-use Rattle.constrain_answers.specs.Answers.{constrain_answer}
+use Rattle.run_answers.specs.ConstraintAnswers.{constrain_answer}
 use Rattle.flow_state.specs.Answers.{flows_answer}
 use Rattle.decode_answers.specs.Decoding.{WritesSpelled, decode_verdict, spelled}
 use Rattle.graceful_answers.specs.Answers.{WritesLog, graceful_verdict, log_in}
-use Rattle.gen_answers.specs.Answers.{gen_answer}
+use Rattle.run_answers.specs.ScenarioAnswers.{gen_answer}
 use Rattle.run_answers.specs.Answers.{run_answer}
 use Rattle.top_call.specs.declared.command.Command.{Command}
 use Rattle.top_call.specs.declared.command.Command.TheVariants.{Compile, Reach, Scale, Constrain, Graceful, Flows, Run, Decode, Gen}

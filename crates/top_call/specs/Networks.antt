@@ -4,13 +4,13 @@ use Rattle.std.specs.declared.option.Option.{Option}
 use Rattle.std.specs.declared.option.Option.TheVariants.{Some, None}
 use Rattle.std.specs.declared.result.Result.{Result}
 use Rattle.ov_io.specs.declared.pieces.WriteRefusal.{WriteRefusal}
-use Rattle.constrain_answers.specs.Networks.{IsLeftSettled, TookConstraint}
+use Rattle.run_answers.specs.ConstraintNetworks.{IsLeftSettled, TookConstraint}
 use Rattle.flow_state.specs.Answers.{TookReplies}
 use Rattle.graceful_answers.specs.Answers.{TookLog}
 use Rattle.run_answers.specs.NetState.{NetState}
 use Rattle.compile_answers.specs.declared.unfit.Reception.{Reception}
 use Rattle.compile_answers.specs.Leaving.{LeftOn, PromisedOn}
-use Rattle.gen_answers.specs.Answers.{IsLeftOfScenario, TookSummary}
+use Rattle.run_answers.specs.ScenarioAnswers.{IsLeftOfScenario, TookSummary}
 use Rattle.run_answers.specs.Networks.{IsLeftOf, TookAnswers}
 use Rattle.top_call.specs.declared.command.Command.{Command}
 use Rattle.top_call.specs.declared.command.Command.TheVariants.{Constrain, Graceful, Flows, Run, Gen}

@@ -7,13 +7,11 @@ ghost use Rattle.top_call.specs.Networks.{LeavesOn, PromisesOn};
 
 use crate::command::Command;
 use compile_answers::{Reception, answer_compile, answer_reach, answer_scale};
-use constrain_answers::answer_constrain;
 use decode_answers::answer_decode;
 use flow_state::answer_flows;
-use gen_answers::answer_gen;
 use graceful_answers::answer_graceful;
 use ov_io::{Sink, WriteRefusal};
-use run_answers::{Net, answer_run};
+use run_answers::{Net, answer_constrain, answer_gen, answer_run};
 use std::alloc::Global;
 
 /// Writes what a command answers to an input, as it is made, and tells what the input is found to be. `constrain`, `run`

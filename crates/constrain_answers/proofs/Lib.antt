@@ -1,3 +1,0 @@
-pub mod Quiet
-pub mod Written
-pub mod Ending

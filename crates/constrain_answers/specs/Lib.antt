@@ -1,4 +1,0 @@
--- The files of definitions, in the order in which they stand on each other.
-pub mod Constraint
-pub mod Answers
-pub mod Networks
