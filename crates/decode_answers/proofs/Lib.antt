@@ -1,3 +1,4 @@
+-- Lemmas, in the order in which they stand on each other: those of `decode` and of `graceful`.
 pub mod Reports
 pub mod OneReport
 pub mod SomeReport
@@ -6,3 +7,14 @@ pub mod Telling
 pub mod Standing
 pub mod FoundOctets
 pub mod ToldRoutes
+pub mod Opens
+pub mod Updates
+pub mod Deciding
+pub mod EntriesWritten
+pub mod NoEntry
+pub mod Forms
+pub mod Reading
+pub mod OneText
+pub mod SomeText
+pub mod LogTelling
+pub mod LogWritten

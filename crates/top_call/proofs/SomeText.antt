@@ -7,7 +7,7 @@ use Rattle.compile_answers.specs.Answers.{compile_answer, reach_answer, scale_an
 use Rattle.flow_state.specs.Answers.{flows_answer}
 use Rattle.decode_answers.specs.Decoding.{spelled}
 use Rattle.decode_answers.proofs.Spelled.{text_spelled}
-use Rattle.graceful_answers.proofs.Written.{some_written}
+use Rattle.decode_answers.proofs.LogWritten.{some_written}
 use Rattle.run_answers.specs.ScenarioAnswers.{gen_answer}
 use Rattle.run_answers.specs.Answers.{run_answer}
 use Rattle.top_call.specs.declared.command.Command.{Command}

@@ -5,7 +5,7 @@ use Rattle.compile_answers.specs.Answers.{compile_answer, reach_answer, scale_an
 use Rattle.run_answers.specs.ConstraintAnswers.{constrain_answer}
 use Rattle.flow_state.specs.Answers.{flows_answer}
 use Rattle.decode_answers.specs.Decoding.{WritesSpelled, decode_verdict, spelled}
-use Rattle.graceful_answers.specs.Answers.{WritesLog, graceful_verdict, log_in}
+use Rattle.decode_answers.specs.LogAnswers.{WritesLog, graceful_verdict, log_in}
 use Rattle.run_answers.specs.ScenarioAnswers.{gen_answer}
 use Rattle.run_answers.specs.Answers.{run_answer}
 use Rattle.top_call.specs.declared.command.Command.{Command}

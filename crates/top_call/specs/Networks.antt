@@ -6,7 +6,7 @@ use Rattle.std.specs.declared.result.Result.{Result}
 use Rattle.ov_io.specs.declared.pieces.WriteRefusal.{WriteRefusal}
 use Rattle.run_answers.specs.ConstraintNetworks.{IsLeftSettled, TookConstraint}
 use Rattle.flow_state.specs.Answers.{TookReplies}
-use Rattle.graceful_answers.specs.Answers.{TookLog}
+use Rattle.decode_answers.specs.LogAnswers.{TookLog}
 use Rattle.run_answers.specs.NetState.{NetState}
 use Rattle.compile_answers.specs.declared.unfit.Reception.{Reception}
 use Rattle.compile_answers.specs.Leaving.{LeftOn, PromisedOn}

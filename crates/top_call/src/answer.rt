@@ -7,9 +7,8 @@ ghost use Rattle.top_call.specs.Networks.{LeavesOn, PromisesOn};
 
 use crate::command::Command;
 use compile_answers::{Reception, answer_compile, answer_reach, answer_scale};
-use decode_answers::answer_decode;
+use decode_answers::{answer_decode, answer_graceful};
 use flow_state::answer_flows;
-use graceful_answers::answer_graceful;
 use ov_io::{Sink, WriteRefusal};
 use run_answers::{Net, answer_constrain, answer_gen, answer_run};
 use std::alloc::Global;
