@@ -3,8 +3,8 @@
 use crate::fault::CaseFault;
 use crate::octets::octets_of;
 use crate::{
-    answers, chains, decisions, edits, ends, groups, help, readings, reports, scenarios, sentences,
-    ties,
+    answers, chains, decisions, edits, ends, groups, help, hinting, manual, readings, reports,
+    scenarios, sentences, ties,
 };
 use ov_io::TextOut;
 use std::alloc::Global;
@@ -40,6 +40,7 @@ fn tell(alloc: Global, kind: &str, given: &str, out: &mut TextOut) -> Result<(),
         "answer" | "tied" | "lines" => reports::tell(alloc, kind, given, out),
         "check" => decisions::tell_check(alloc, given, out),
         "tenants" => scenarios::tell_tenants(given, out),
+        "manual" => manual::tell(given, out),
         _ => match given.split_once(" | ") {
             Some((asked, document)) => tell_of(alloc, kind, asked, document, out),
             None => readings::tell(alloc, kind, given, out),
@@ -62,6 +63,7 @@ fn tell_of(
         "expanded" => chains::tell_expanded(alloc, asked, document, out),
         "straight" => chains::tell_straight(alloc, asked, document, out),
         "groups" => groups::tell_groups(alloc, asked, document, out),
+        "hint" => hinting::tell_hint(alloc, asked, document, out),
         "ties" => ties::tell_ties(alloc, asked, document, out),
         "scenario" => scenarios::tell_scenario(alloc, asked, document, out),
         _ => Err(CaseFault::Unreadable),

@@ -13,6 +13,8 @@ mod ends;
 mod fault;
 mod groups;
 mod help;
+mod hinting;
+mod manual;
 mod octets;
 mod readings;
 mod reports;
