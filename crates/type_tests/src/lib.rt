@@ -1,5 +1,7 @@
-//! Tests of the plain types and of what stands on them alone, by their public calls.
+//! Tests of the plain types and of what stands on them alone, by their public calls, and laws over these types.
 #![tactic(auto)]
+
+pub mod laws;
 
 #[cfg(test)]
 mod asked;

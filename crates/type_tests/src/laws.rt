@@ -1,12 +1,10 @@
 //! Laws over the types of `ov_types`: which distinguishers and which targets are told apart by their texts, and what it means
 //! that a count of faults rose, on which the causes of all faults of reading, writing and sending rest.
-#![tactic(auto)]
-
 ghost use Rattle.std.specs.Prelude.{◌≡◌, ◌↔◌, ◌⊎◌, ◌<◌, ◌^◌, ◌-◌, ℕ, IsTrue};
 ghost use Rattle.ov_types.specs.Counts.{Rose};
 ghost use Rattle.ov_types.specs.Targets.{is_target};
 ghost use Rattle.ov_types.specs.Texts.{distinguisher_text, target_text};
-ghost use Rattle.type_laws.specs.Telling.{DifferInTheirSubtype};
+ghost use Rattle.type_tests.specs.Telling.{DifferInTheirSubtype};
 
 /// Two distinguishers have two texts.
 pub fn distinguishers_are_told_apart()
