@@ -1,4 +1,4 @@
-//! What nodes answer.
+//! What steps and nodes answer.
 
 use crate::fault::{CaseFault, told};
 use ov_io::TextOut;
@@ -12,6 +12,22 @@ pub(crate) fn begin(out: &mut TextOut) -> Result<(), NoMemory> {
         Ok(())
     } else {
         out.push(b" / ")
+    }
+}
+
+/// Tells why a step was not made, or how it ended where nothing is told of it.
+pub(crate) fn tell(
+    answer: Result<(), CaseFault>,
+    end: &str,
+    came: &mut TextOut,
+) -> Result<(), NoMemory> {
+    match answer {
+        Ok(()) if came.octets().is_empty() => came.push(end.as_bytes()),
+        Ok(()) => Ok(()),
+        Err(fault) => {
+            came.clear();
+            write!(came, "{fault}")
+        }
     }
 }
 

@@ -1,7 +1,9 @@
-//! Cases: nodes of one kind, and steps with what is wanted of each.
+//! Cases: nodes of one kind or tables, and steps with what is wanted of each.
 
+use crate::answers::tell;
 use crate::nodes::Node;
 use crate::scene::Scene;
+use crate::tables;
 use crate::tally::Tally;
 use agent_node::AgentNode;
 use config_node::ConfigNode;
@@ -18,7 +20,7 @@ pub(crate) fn play_all(alloc: Global, text: &str, tally: &mut Tally) -> Result<(
     Ok(())
 }
 
-/// Plays a case. Its first line is the kind of its nodes and its name, and each other line a step.
+/// Plays a case. Its first line is the kind of its nodes, or `tables`, and its name, and each other line a step.
 fn play(alloc: Global, case: &str, tally: &mut Tally) -> Result<(), NoMemory> {
     let (head, steps) = case.split_once("\n").unwrap_or((case, ""));
     match head.split_once(" ") {
@@ -39,6 +41,7 @@ fn play_of(
         "config" => play_at::<ConfigNode>(alloc, name, steps, tally),
         "control" => play_at::<ControlNode>(alloc, name, steps, tally),
         "agent" => play_at::<AgentNode>(alloc, name, steps, tally),
+        "tables" => tables::play(alloc, name, steps, tally),
         _ => tally.count(name, kind, "a kind of node", b""),
     }
 }
@@ -79,23 +82,6 @@ fn play_step<N: Node>(
 ) -> Result<(), NoMemory> {
     let (step, wanted) = line.split_once(" => ").unwrap_or((line, "done"));
     let mut came = TextOut::new(alloc);
-    tell(alloc, step, scene, &mut came)?;
+    tell(scene.make(alloc, step, &mut came), "none", &mut came)?;
     tally.count(name, line, wanted, came.octets())
-}
-
-/// What a step comes to, or why it can't be made.
-fn tell<N: Node>(
-    alloc: Global,
-    step: &str,
-    scene: &mut Scene<N>,
-    came: &mut TextOut,
-) -> Result<(), NoMemory> {
-    match scene.make(alloc, step, came) {
-        Ok(()) if came.octets().is_empty() => came.push(b"none"),
-        Ok(()) => Ok(()),
-        Err(fault) => {
-            came.clear();
-            write!(came, "{fault}")
-        }
-    }
 }

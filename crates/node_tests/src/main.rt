@@ -1,19 +1,27 @@
-//! Cases of the configuration node, of control nodes and of agents over their links. Standard input has them, with blank lines
-//! between; the steps that come to something else than is wanted are printed, and then how many come to what is wanted.
+//! Cases of the configuration node, of control nodes and of agents over their links, and of the tables that control nodes have,
+//! with what nodes tell each other of them. Standard input has the cases, with blank lines between; the steps that come to
+//! something else than is wanted are printed, and then how many come to what is wanted.
 #![tactic(auto)]
 
 mod agents;
 mod answers;
 mod cases;
+mod changes;
 mod configs;
 mod controls;
 mod fault;
 mod flows;
+mod laws;
 mod links;
+mod listing;
 mod nodes;
 mod octets;
+mod paths;
+mod questions;
 mod scene;
+mod tables;
 mod tally;
+mod wanted;
 mod words;
 
 use crate::cases::play_all;
@@ -33,6 +41,7 @@ fn play(rt: &impl Print, alloc: Global, text: &str) -> io::Result<()> {
 }
 
 fn main(rt: HostRuntime) -> io::Result<()> {
+    laws::laws();
     let text = io::read_to_string(rt.alloc(), rt.stdin())?;
     play(&rt, rt.alloc(), text.as_str())
 }

@@ -1,7 +1,8 @@
 //! Questions of tables.
 
+use crate::answers::begin;
 use crate::fault::{CaseFault, told};
-use crate::listing::{begin, push_instances, push_key, push_routes};
+use crate::listing::{push_instances, push_key, push_routes};
 use crate::paths::{tell_better, tell_selected};
 use crate::wanted::ask_wanted;
 use crate::words::{address, both, instance, key, number, prefix, short_number};

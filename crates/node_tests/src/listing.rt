@@ -1,17 +1,9 @@
 //! How things that are listed are told.
 
+use crate::answers::begin;
 use ov_io::TextOut;
 use ov_types::{InstanceId, NoMemory, VpnKey, VpnRoute};
 use vpn_tables::Route;
-
-/// Begins one more thing that is told.
-pub(crate) fn begin(out: &mut TextOut) -> Result<(), NoMemory> {
-    if out.octets().is_empty() {
-        Ok(())
-    } else {
-        out.push(b" / ")
-    }
-}
 
 /// A distinguisher, a prefix and a label for each route.
 pub(crate) fn push_routes(routes: &[Route], out: &mut TextOut) -> Result<(), NoMemory> {

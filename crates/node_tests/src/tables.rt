@@ -1,5 +1,6 @@
-//! Cases: tables that begin empty, and steps, each a change of them or a question with what is wanted of it.
+//! Cases of tables that begin empty: each step is a change of them, or a question with what is wanted of it.
 
+use crate::answers::tell;
 use crate::changes::change;
 use crate::fault::CaseFault;
 use crate::questions::ask;
@@ -10,19 +11,13 @@ use ov_types::NoMemory;
 use std::alloc::Global;
 use vpn_stored_rows::StoredTables;
 
-/// Plays the cases of a text, which stand between blank lines.
-pub(crate) fn play_all(alloc: Global, text: &str, tally: &mut Tally) -> Result<(), NoMemory> {
-    for case in text.split("\n\n") {
-        if !case.starts_with("#") {
-            play(alloc, case, tally)?;
-        }
-    }
-    Ok(())
-}
-
-/// Plays a case. Its first line is the number of an autonomous system and its name, and each other line a step.
-fn play(alloc: Global, case: &str, tally: &mut Tally) -> Result<(), NoMemory> {
-    let (head, steps) = case.split_once("\n").unwrap_or((case, ""));
+/// Plays the steps of a case that begins with the number of an autonomous system and with its name.
+pub(crate) fn play(
+    alloc: Global,
+    head: &str,
+    steps: &str,
+    tally: &mut Tally,
+) -> Result<(), NoMemory> {
     match named(head) {
         Ok((asn, name)) => play_in(alloc, asn, name, steps, tally),
         Err(_) => tally.count(head, "", "a number and a name", b""),
@@ -81,16 +76,4 @@ fn play_step(
         }
     };
     tally.count(name, line, wanted, came.octets())
-}
-
-/// Tells why a step was not made, or how it ended where nothing is told of it.
-fn tell(answer: Result<(), CaseFault>, end: &str, came: &mut TextOut) -> Result<(), NoMemory> {
-    match answer {
-        Ok(()) if came.octets().is_empty() => came.push(end.as_bytes()),
-        Ok(()) => Ok(()),
-        Err(fault) => {
-            came.clear();
-            write!(came, "{fault}")
-        }
-    }
 }

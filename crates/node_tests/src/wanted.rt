@@ -1,7 +1,8 @@
 //! What peers and agents are to be told.
 
+use crate::answers::begin;
 use crate::fault::{CaseFault, told};
-use crate::listing::{begin, push_told};
+use crate::listing::push_told;
 use crate::questions::push_object;
 use crate::words::short_number;
 use chain_reorigin::reoriginated;
