@@ -4,9 +4,7 @@ ghost use Rattle.std.specs.Io.KnownBytes.{Appends};
 ghost use Rattle.serde_json.specs.View.{view};
 ghost use Rattle.config_model.specs.Input.{compile_at};
 ghost use Rattle.compile_answers.specs.Answers.{IsAnswered, WasGiven, answer_good};
-ghost use Rattle.net_machine.specs.MachineLaws.Headline.{IsWritten};
 ghost use Rattle.net_machine.specs.RunningModel.Stands.{moment};
-ghost use Rattle.machine_model.specs.Setup.{opening};
 ghost use Rattle.ov_io.specs.Inputs.{TookFront};
 ghost use Rattle.ov_io.specs.Pieces.{HasWriteCause};
 ghost use Rattle.run_answers.specs.ConstraintAnswers.{constrain_answer, constrain_value};
@@ -14,6 +12,7 @@ ghost use Rattle.run_answers.specs.Constraint.{constrain_text, constraint_text, 
 ghost use Rattle.run_answers.specs.ConstraintNetworks.{HasSettled, IsLeftSettled, IsReadAs, NoneNeedsMore, TookConstraint};
 ghost use Rattle.run_answers.specs.ConstraintNetworks.{input_of};
 
+use crate::running::know_valid;
 use crate::sending::write_constraint;
 use compile_answers::{Reception, Unfit, valid_of, write_unfit};
 use config_check::Valid;
@@ -80,13 +79,6 @@ fn settled_and_written<K: Sink>(
     let net = settled(alloc, valid)?;
     write_constraint(alloc, &net, sink)?;
     Ok(net)
-}
-
-/// What a valid configuration is.
-fn know_valid(valid: &Valid)
-    ensures { IsWritten (opening valid.now) }
-{
-    let _topology = valid.topology();
 }
 
 /// Writes what `constrain` answers to an input. The network that has settled is left where all was written, and else none

@@ -152,7 +152,7 @@ fn run_written<K: Sink>(
 }
 
 /// What a valid configuration is.
-fn know_valid(valid: &Valid)
+pub(crate) fn know_valid(valid: &Valid)
     ensures { IsWritten (opening valid.now) }
 {
     let _topology = valid.topology();
