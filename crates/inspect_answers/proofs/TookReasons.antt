@@ -18,9 +18,9 @@ use Rattle.config_check.specs.Rules.{first_broken}
 use Rattle.config_check.specs.declared.refusal.Refusal.{Refusal}
 use Rattle.compile_answers.specs.Answers.{answer_good}
 use Rattle.reach_plain.specs.Reachability.{reachability}
-use Rattle.inspect_reasons.specs.Causes.{causes}
-use Rattle.inspect_reasons.specs.declared.cause.Cause.{Cause}
-use Rattle.inspect_reasons.proofs.Explained.{explains}
+use Rattle.inspect_rules.specs.Causes.{causes}
+use Rattle.inspect_rules.specs.declared.cause.Cause.{Cause}
+use Rattle.inspect_rules.proofs.Explained.{explains}
 use Rattle.inspect_answers.specs.Answers.{Answer, IsAnswer, WasGiven, answer_unless, judged, of_json, why_answer, why_reading, why_value}
 use Rattle.inspect_answers.specs.Explained.{Explained, IsAskedIn, IsExplained, TookExplained, packet_in, packets_from, told_in, told_value, why_in}
 use Rattle.inspect_json.specs.Form.{IsReadBack}

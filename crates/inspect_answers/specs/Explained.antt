@@ -12,10 +12,10 @@ use Rattle.config_model.specs.declared.input.ReachInput.{ReachInput}
 use Rattle.config_check.specs.Rules.{first_broken}
 use Rattle.reach_plain.specs.Reachability.{reachability}
 use Rattle.inspect_changes.specs.Report.Outcomes.{outcome_line}
-use Rattle.inspect_reasons.specs.CauseLines.{cause_line}
-use Rattle.inspect_reasons.specs.Causes.{causes}
-use Rattle.inspect_reasons.specs.Explaining.{Explain}
-use Rattle.inspect_reasons.specs.declared.cause.Cause.{Cause}
+use Rattle.inspect_rules.specs.CauseLines.{cause_line}
+use Rattle.inspect_rules.specs.Causes.{causes}
+use Rattle.inspect_rules.specs.Explaining.{Explain}
+use Rattle.inspect_rules.specs.declared.cause.Cause.{Cause}
 use Rattle.inspect_json.specs.Form.{IsReadBack, json_line}
 use Rattle.inspect_json.specs.ReasonValues.{explained_value}
 use Rattle.inspect_json.specs.declared.form.Form.{Form}

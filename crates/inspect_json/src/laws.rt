@@ -17,7 +17,7 @@ ghost use Rattle.inspect_changes.specs.declared.objects.Object.{Object};
 ghost use Rattle.inspect_changes.specs.declared.pairs.Pairs.{Pairs};
 ghost use Rattle.inspect_changes.specs.declared.way.Way.{Way};
 ghost use Rattle.inspect_rules.specs.declared.idle.Idle.{Idle};
-ghost use Rattle.inspect_reasons.specs.declared.cause.Cause.{Cause};
+ghost use Rattle.inspect_rules.specs.declared.cause.Cause.{Cause};
 ghost use Rattle.inspect_json.specs.ChangeLines.{diff_in};
 ghost use Rattle.inspect_json.specs.ChangeValues.{came_value, difference_value, port_name, went_value};
 ghost use Rattle.inspect_json.specs.Form.{IsReadBack};

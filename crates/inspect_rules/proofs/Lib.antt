@@ -1,2 +1,7 @@
 pub mod Deciding
 pub mod Unneeded
+mod Kept
+mod Failing
+mod Asked
+mod Nowhere
+pub mod Explained
