@@ -5,7 +5,7 @@ ghost use Rattle.item_wire.specs.Happenings.{after};
 ghost use Rattle.item_wire.specs.declared.input.Came.TheVariants.{Closed};
 ghost use Rattle.node_core.specs.Plans.{ArePlans};
 ghost use Rattle.node_core.specs.Resting.{end_at};
-ghost use Rattle.node_items.specs.Beginning.{phase_of};
+ghost use Rattle.node_core.specs.Beginning.{phase_of};
 ghost use Rattle.node_core.specs.NodeModel.Step.{nothing, post};
 ghost use Rattle.flow_acl.specs.Flows.{AreOf};
 ghost use Rattle.node_core.specs.NodeModel.Agent.{Holdings, is_needed};
@@ -159,7 +159,7 @@ impl AgentEnds {
         shut(&mut self.hearings[index], &mut self.sents[index]);
     }
 
-    /// Where its memory comes from.
+    /// Where the ends take memory from.
     pub(crate) fn alloc(&self) -> Global {
         self.alloc
     }
@@ -178,7 +178,7 @@ impl AgentEnds {
         AgentTables::of(self.alloc, &self.hearings)
     }
 
-    /// Each of these routes is that of the first session that is up and has it from now on.
+    /// Sets each of some routes to that of the first session that is up and has it.
     pub(crate) fn set_routes(
         &self,
         tables: &mut AgentTables,

@@ -172,7 +172,7 @@ fn are_both(before: bool, stays: bool) -> bool
 impl Ends for TabledEnds {
     ghost use Rattle.std.specs.Prelude.{◌≡◌, refl};
     ghost use Rattle.std.proofs.Common.{◌∙◌};
-    ghost use Rattle.node_items.proofs.Begun.{behind};
+    ghost use Rattle.node_core.proofs.Begun.{behind};
     ghost use Rattle.agent_node.specs.Beginning.{BeginsKeeping, session_at};
     ghost use Rattle.agent_node.specs.Core.{kind};
 
@@ -198,6 +198,7 @@ impl Ends for TabledEnds {
     }
 
     fn begin(&mut self, input: Input<'_>) -> Result<Started<ItemCause>, NoMemory> {
+        // (for its clauses: there are as many ends as sessions, fewer than 65,536)
         let _before = self.ends.sessions();
         let current = self.current;
         let told = self.told;

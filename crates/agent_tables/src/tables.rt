@@ -5,8 +5,8 @@ ghost use Rattle.ov_types.specs.Access.{verdict};
 ghost use Rattle.ov_types.specs.declared.objects.LowKey.TheVariants.{Acl};
 ghost use Rattle.route_targets.specs.Forwarding.{attached, looked_up};
 ghost use Rattle.packet_trace.specs.Circuits.{IsOfAUse};
-ghost use Rattle.node_items.specs.Told.{AllFit};
-ghost use Rattle.node_items.specs.NodeModel.Agent.{Heard, Holdings, is_needed};
+ghost use Rattle.node_core.specs.Told.{AllFit};
+ghost use Rattle.node_core.specs.NodeModel.Agent.{Heard, Holdings, is_needed};
 ghost use Rattle.flow_acl.specs.Flows.{AreOf};
 ghost use Rattle.agent_tables.specs.Listed.{HaveSame, SameBut};
 ghost use Rattle.agent_tables.specs.Touched.{AreTables, HaveRoutes, with_routes};
@@ -202,8 +202,8 @@ impl AgentTables {
         self.acls = acls;
     }
 
-    /// Each of these routes is that of the first session that is up and has it from now on, and there is none where none
-    /// has it; those of instances without a table do not count. Nothing else changes.
+    /// Sets each of some routes to that of the first session that is up and has it, or to none where none has it.
+    /// Routes of instances without a table do not count. Nothing else changes.
     pub fn set_routes(
         &mut self,
         sessions: &[Hearing],

@@ -11,14 +11,14 @@ use Rattle.ov_link.specs.declared.step.NodeFault.{NodeFault}
 use Rattle.ov_link.specs.declared.step.NodeFault.TheVariants.{NoMemory}
 use Rattle.item_wire.specs.declared.event.ItemCause.{ItemCause}
 use Rattle.item_wire.specs.declared.event.ItemCause.TheVariants.{Ended}
-use Rattle.node_items.proofs.NotEnded.{never_ended_keeping}
+use Rattle.node_core.proofs.NotEnded.{never_ended_keeping}
 use Rattle.node_core.specs.NodeModel.Step.{Post}
 use Rattle.node_core.specs.Whole.{IsWholeStep}
 use Rattle.node_core.proofs.Closing.{never_closed}
 use Rattle.node_laws.specs.Stepped.{AreTold, WantsByHoldings}
 use Rattle.node_laws.proofs.AtTheEnd.{told_where_none_failed}
 use Rattle.config_check.specs.Checked.{Checked}
-use Rattle.transform_record_laws.specs.MachineModel.Network.{config}
+use Rattle.config_node.specs.MachineModel.Network.{config}
 use Rattle.config_node.specs.Beginning.{BeginsKeeping, session_at}
 use Rattle.config_node.specs.Core.{kind}
 

@@ -3,19 +3,19 @@ use Rattle.std.specs.Prelude.{ℕ, List, length, Bool, false, refl}
 use Rattle.std.specs.Coded.{Coded, code_by, coded×, coded_bool, coded_list, coded_ℕ}
 use Rattle.config_check.specs.Checked.{Checked}
 use Rattle.config_check.specs.contracts.valid.Valid as valid
-use Rattle.node_items.specs.Told.{spelled}
+use Rattle.node_core.specs.Told.{spelled}
 use Rattle.node_core.specs.NodeModel.Codes.{coded_post}
 use Rattle.node_core.specs.NodeModel.Maps.{Map}
 pub use Rattle.node_core.specs.Keeping.{AreFew, AreOfLive, AreSwept, kept_at, nothing_kept}
 pub use Rattle.node_core.specs.Resting.{is_idle, is_up, may_send, nothings}
 use Rattle.node_core.specs.NodeModel.Step.{NodeKind, Post}
-use Rattle.transform_record_laws.specs.MachineModel.Setup.{low_in}
+use Rattle.config_node.specs.MachineModel.Setup.{low_in}
 
--- its ends are those of the control nodes, in the order of the topology
+-- the configuration node as it is seen: its ends are those of the control nodes, in the order of the topology
 pub record Core : Type 0 where
   pub setup : Checked
   pub posts : List Post
-  -- of each session, the octets of a record that is not whole yet
+  -- the octets of a record that is not whole yet, of each session
   pub kept : List (List ℕ)
   pub failed : Bool
 

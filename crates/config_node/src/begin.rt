@@ -7,7 +7,7 @@ ghost use Rattle.node_core.specs.Begun.{HasBegun};
 ghost use Rattle.node_core.specs.Keeping.{left_in, size_of};
 ghost use Rattle.node_core.specs.Whole.{Comes, session_of};
 ghost use Rattle.node_core.specs.NodeModel.Step.{Beginning, Idle, Opened, post};
-ghost use Rattle.transform_record_laws.specs.MachineModel.Network.{config};
+ghost use Rattle.config_node.specs.MachineModel.Network.{config};
 ghost use Rattle.config_node.specs.Beginning.{BeginsKeeping};
 ghost use Rattle.config_node.specs.Core.{is_idle, sessions};
 ghost use Rattle.config_node.specs.Ends.{whom};
@@ -15,8 +15,7 @@ ghost use Rattle.config_node.specs.Taking.{HasHeard, HasTaken};
 
 use crate::ends::ConfigEnds;
 use item_wire::{ItemCause, ItemSession};
-use node_core::{Ends, Started};
-use node_items::{HeardRecords, config_name, greet, hear};
+use node_core::{Ends, HeardRecords, Started, config_name, greet, hear};
 use ov_link::Input;
 use ov_types::{Items, NoMemory};
 use std::alloc::Global;
@@ -24,9 +23,9 @@ use std::alloc::Global;
 /// What octets came to at an end.
 #[derive(Drop)]
 struct Taken {
-    /// How many of them were taken: all but those of a record that is not whole.
+    /// How many octets were taken: all but those of a record that is not whole.
     taken: usize,
-    /// Why they took the session down, where they did.
+    /// Why the octets took the session down, where they did.
     cause: Option<ItemCause>,
 }
 

@@ -4,7 +4,7 @@ ghost use Rattle.config_types.specs.Form.{has_config_form, has_topology_form};
 ghost use Rattle.config_check.specs.Rules.{first_broken};
 ghost use Rattle.item_wire.specs.Happenings.{after};
 ghost use Rattle.item_wire.specs.declared.input.Came.TheVariants.{Closed};
-ghost use Rattle.node_items.specs.Beginning.{phase_of};
+ghost use Rattle.node_core.specs.Beginning.{phase_of};
 ghost use Rattle.config_node.specs.Core.{is_idle, nothings, sessions};
 ghost use Rattle.config_node.specs.Ends.{doubted, new_end};
 
@@ -74,7 +74,7 @@ impl Model for ConfigEnds {
 impl Ends for ConfigEnds {
     ghost use Rattle.std.specs.Prelude.{◌≡◌, refl};
     ghost use Rattle.std.proofs.Common.{◌∙◌};
-    ghost use Rattle.node_items.proofs.Begun.{behind};
+    ghost use Rattle.node_core.proofs.Begun.{behind};
     ghost use Rattle.node_core.specs.NodeModel.Naming.{config};
     ghost use Rattle.config_node.specs.Beginning.{BeginsKeeping, session_at};
     ghost use Rattle.config_node.specs.Core.{kind};
@@ -106,6 +106,7 @@ impl Ends for ConfigEnds {
     }
 
     fn begin(&mut self, input: Input<'_>) -> Result<Started<ItemCause>, NoMemory> {
+        // (for its clauses: there are as many ends as sessions, fewer than 65,536)
         let _before = self.sessions();
         let started = self.apply(input);
         let _after = self.sessions();
@@ -179,6 +180,7 @@ impl ConfigEnds {
         ensures config_form { IsTrue (has_config_form self.now.setup.config) }
         ensures valid { first_broken self.now.setup.topology self.now.setup.config ≡ None }
     {
+        // (for its clauses: the configuration is valid and of the written form)
         let _topology = self.valid.topology();
         &self.valid
     }

@@ -2,8 +2,8 @@
 ghost use Rattle.std.specs.Prelude.{◌≡◌, IfOk, OnErr, OnOk, option_copied};
 ghost use Rattle.std.specs.FinMap.{get, insert, remove};
 ghost use Rattle.ov_sync.specs.Keyed.{map_of, set_key};
-ghost use Rattle.node_items.specs.Told.{AllFit};
-ghost use Rattle.transform_record_laws.specs.MachineModel.Setup.{low_in};
+ghost use Rattle.node_core.specs.Told.{AllFit};
+ghost use Rattle.config_node.specs.MachineModel.Setup.{low_in};
 ghost use Rattle.config_node.specs.Ends.{low_of, low_order};
 
 use config_check::Valid;
@@ -21,6 +21,7 @@ pub(crate) fn wanted(alloc: Global, valid: &Valid) -> Result<Objects, NoMemory>
     ensures wanted { IfOk result (λ objects. low_of objects.entries ≡ low_in valid.now) }
     ensures fits { AllFit (low_in valid.now) }
 {
+    // (for its clauses: the configuration is valid and of the written form)
     let _config = valid.config();
     let objects = low(alloc, valid)?;
     let wants = first_of_each(alloc, objects.into_vec())?;

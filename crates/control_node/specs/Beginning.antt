@@ -12,7 +12,7 @@ use Rattle.item_wire.specs.Happenings as items
 use Rattle.item_wire.specs.declared.event.ItemCause.{ItemCause}
 use Rattle.item_wire.specs.declared.event.ItemFrom.TheVariants as From
 use Rattle.item_wire.specs.declared.event.ItemState.{ItemState}
-use Rattle.node_items.specs.Beginning as item
+use Rattle.node_core.specs.Beginning as item
 use Rattle.node_routes.specs.Beginning as route
 pub use Rattle.node_core.specs.NodeModel.Naming.{config, no_node}
 use Rattle.node_core.specs.NodeModel.Step.{Beginning, Phase, Idle, Opened, Confirmed, Up, Post}
@@ -68,7 +68,7 @@ BeginsBy false = ItemBegins
 abbrev pub Begins : ControlPlan → ℕ → Post → Input → Beginning → Option NodeCause → Type 0
 Begins plan i = BeginsBy (is_peer plan i) plan i
 
--- ---- the same, where these octets were kept of the session before, and what is kept of it then
+-- ---- an input where octets were kept of the session before, and what is kept of it then
 abbrev pub PeerKeeps : ControlPlan → ℕ → Post → List ℕ → Input → Beginning → Option NodeCause → List ℕ → Type 0
 PeerKeeps plan i p kept input given cause left =
     (c : Option PeerCause) × (cause ≡ option_map Cause.Peer c)

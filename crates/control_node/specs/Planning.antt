@@ -1,15 +1,15 @@
 -- What the ends of a control node's sessions are told in a pass.
 use Rattle.std.specs.Prelude.{◌≡◌, ℕ, suc, ◌+◌, List, [], ◌∷◌, ◌++◌, map, length, Bool, not, if◌then◌else◌}
 use Rattle.node_core.specs.declared.ends.Plan.{Plan}
-use Rattle.node_items.specs.Beginning as item
-use Rattle.node_items.specs.Told as items
+use Rattle.node_core.specs.Beginning as item
+use Rattle.node_core.specs.Told as items
 use Rattle.node_core.specs.NodeModel.Maps.{Map, Change, difference}
 use Rattle.node_core.specs.NodeModel.Paths.{Holdings}
 use Rattle.node_core.specs.NodeModel.Wants.{wanted_by_peers}
 use Rattle.node_routes.specs.Beginning as route
 use Rattle.node_routes.specs.Told as routes
 use Rattle.vpn_tables.specs.Views.{peer_of}
-pub use Rattle.control_marks.specs.ControlChangeLaws.Here.{wanted_on}
+pub use Rattle.control_wants.specs.ControlChangeLaws.Here.{wanted_on}
 use Rattle.control_node.specs.Wanting.{is_idle, is_up}
 use Rattle.control_node.specs.declared.ends.AgentEnd.{AgentEnd}
 use Rattle.control_node.specs.declared.ends.PeerEnd.{PeerEnd}

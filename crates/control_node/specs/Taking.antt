@@ -14,9 +14,9 @@ use Rattle.bgp_session.specs.declared.event.Cause.{Cause as PeerCause}
 use Rattle.item_wire.specs.Happenings as items
 use Rattle.item_wire.specs.declared.event.ItemCause.{ItemCause}
 use Rattle.item_wire.specs.declared.input.Came.{Came}
-use Rattle.node_items.specs.Hearing as item
-use Rattle.node_items.specs.Keeping as kept_items
-use Rattle.node_items.specs.Told.{change_of}
+use Rattle.node_core.specs.Hearing as item
+use Rattle.node_core.specs.Left as kept_items
+use Rattle.node_core.specs.Told.{change_of}
 use Rattle.node_core.specs.NodeModel.Maps.{Map, Change}
 use Rattle.node_core.specs.NodeModel.Paths.{Holdings}
 use Rattle.node_routes.specs.Hearing as route
@@ -28,7 +28,7 @@ abbrev pub changed_by : Map → Option Change → Map
 changed_by m None = m
 changed_by m (Some c) = changed m c
 
--- and after the changes of a session that stays up
+-- a map after the changes of a session, which count where the session stays up
 abbrev pub taken : {C : Type 0} → Option C → List Change → Map → Map
 taken None changes m = after m changes
 taken (Some cause) changes m = m

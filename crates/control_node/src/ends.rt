@@ -1,7 +1,7 @@
 //! The ends of a control node's sessions.
 ghost use Rattle.std.specs.Prelude.{◌≡◌, length, not, refl};
 ghost use Rattle.std.proofs.Common.{◌∙◌};
-ghost use Rattle.node_items.specs.Beginning as item;
+ghost use Rattle.node_core.specs.Beginning as item;
 ghost use Rattle.node_routes.specs.Beginning as route;
 ghost use Rattle.control_node.specs.Beginning.{BeginsKeeping};
 ghost use Rattle.control_node.specs.Behind.{begins_behind};
@@ -13,7 +13,7 @@ use crate::closing::{EndPlace, place_of};
 use crate::looking::{item_end, peer_end};
 use crate::planning::plan_marked;
 use bgp_session::{Session, State};
-use control_marks::Dirty;
+use control_wants::Dirty;
 use item_wire::{ItemSession, ItemState};
 use node_core::{EndState, Ends, Plan, Started};
 use ov_link::Input;
@@ -63,9 +63,9 @@ pub(crate) struct ControlEnds {
     /// What may have changed of what sessions are to be told, since the last pass.
     pub(crate) dirty: Dirty,
     pub(crate) feed: ItemSession,
-    /// Of session 1, 2 and so on.
+    /// The ends of the peers: session 1, 2 and so on.
     pub(crate) peers: Vec<PeerEnd>,
-    /// Of the sessions after those of the peers.
+    /// The ends of the agents: the sessions after those of the peers.
     pub(crate) agents: Vec<AgentEnd>,
     pub(crate) alloc: Global,
 }
@@ -122,6 +122,7 @@ impl Ends for ControlEnds {
     }
 
     fn begin(&mut self, input: Input<'_>) -> Result<Started<NodeCause>, NoMemory> {
+        // (for its clauses: there are as many ends as sessions, fewer than 65,536)
         let _before = self.sessions();
         let applied = self.apply(input);
         let _after = self.sessions();

@@ -5,7 +5,7 @@ ghost use Rattle.ov_sync.specs.Embed.{moved_delta};
 ghost use Rattle.bgp_session.specs.BgpVpn.Written.{IfPut};
 ghost use Rattle.node_core.specs.NodeModel.Keys.{Vpn, of_down};
 ghost use Rattle.node_core.specs.NodeModel.Values.{Route};
-ghost use Rattle.node_items.specs.Told.{ChangeFits, down_value, spelled as spelled_item};
+ghost use Rattle.node_core.specs.Told.{ChangeFits, down_value, spelled as spelled_item};
 ghost use Rattle.node_routes.specs.Told.{IsWritable, spelled as spelled_route};
 ghost use Rattle.control_wants.specs.Held.{HoldingsFit};
 ghost use Rattle.control_node.specs.Ends.{IsAgentEnd};
@@ -21,11 +21,11 @@ ghost use Rattle.control_node.specs.Planning.{
   peer_plan,
 };
 ghost use Rattle.control_node.specs.Tracking.{AreAgentsTracked, IsAgentTracked, IsPeerTracked, Tracks};
-ghost use Rattle.control_marks.specs.Marked.{AreMarkedItems};
-ghost use Rattle.control_marks.specs.Wanted.{AreRoutesWanted};
+ghost use Rattle.control_wants.specs.Marked.{AreMarkedItems};
+ghost use Rattle.control_wants.specs.Wanted.{AreRoutesWanted};
 
 use crate::ends::{AgentEnd, PeerEnd};
-use control_marks::{
+use control_wants::{
     Dirty, MarkedItem, RoutesWanted, items_marked, routes_wanted, tell_agent, tell_peer,
 };
 use node_core::Plan;
@@ -60,7 +60,7 @@ fn spell_items(
 {
     let mut messages = Vec::new(alloc);
     for delta in deltas {
-        messages.push(node_items::spell_down(alloc, delta)?)?;
+        messages.push(node_core::spell_down(alloc, delta)?)?;
     }
     Ok(Items::from_vec(messages))
 }

@@ -8,7 +8,7 @@ use crate::lines::TiedFaultText;
 use config_types::Config;
 use hitless_cells::{Course, Difference, Interruption};
 use inspect_json::port_number_value;
-use run_ties::TiedFault;
+use schedule_script::TiedFault;
 use serde_json::{Value, json};
 use std::alloc::{AllocError, Global};
 
@@ -59,7 +59,7 @@ fn difference_word(difference: Difference) -> &'static str
     }
 }
 
-/// The other port, and `null` where there is none.
+/// The port that the packet is delivered to after, where it is another, and else `null`.
 fn other_port_value(
     alloc: Global,
     config: &Config,

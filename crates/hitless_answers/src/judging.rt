@@ -2,7 +2,7 @@
 ghost use Rattle.std.specs.Prelude.{◌≡◌, None, IsTrue, IfOk, OnOk, OnErr};
 ghost use Rattle.config_types.specs.Form.{has_edit_form};
 ghost use Rattle.config_check.specs.Edits.{edit_fault, edited};
-ghost use Rattle.hitless_laws.specs.Keeping.{IsValidAsWritten};
+ghost use Rattle.hitless_cells.specs.Keeping.{IsValidAsWritten};
 ghost use Rattle.hitless_cells.specs.Lines.{interruptions};
 ghost use Rattle.hitless_answers.specs.Judging.{judged, standing, standing_first, standing_next};
 
@@ -11,7 +11,7 @@ use config_check::Valid;
 use config_types::{Config, Edit};
 use hitless_cells::{Interruption, interruptions};
 use ov_types::{Items, NoMemory};
-use run_ties::{TiedFault, TiedRefusal, Ties, apply_tied_edit};
+use schedule_script::{TiedFault, TiedRefusal, Ties, apply_tied_edit};
 use std::alloc::Global;
 use std::marker::Model;
 
@@ -43,6 +43,7 @@ impl Model for Judge {
 pub(crate) fn know_written(valid: &Valid)
     ensures { IsValidAsWritten valid.now }
 {
+    // (for its clauses: the configuration is valid and of the written form)
     let _config = valid.config();
 }
 
@@ -59,6 +60,7 @@ fn interrupted_by(
     requires made { after.now ≡ edited edit.now before.now }
     ensures { IfOk result (λ lines. lines ≡ interruptions before.now (edited edit.now before.now)) }
 {
+    // (for its clause: the configuration is valid and of the written form)
     know_written(before);
     if !replaces(before, edit) {
         return Ok(Items::new(alloc));
@@ -67,7 +69,7 @@ fn interrupted_by(
 }
 
 impl Judge {
-    /// Before the first edit.
+    /// The judge before the first edit, of a valid configuration.
     #[tactic(auto, using(crate::proofs::Standing::starts))]
     pub(crate) fn new(alloc: Global, valid: Valid) -> Result<Judge, NoMemory>
         ensures { IfOk result (λ j. standing j ≡ standing_first valid) }

@@ -17,7 +17,7 @@ ghost use Rattle.inspect_changes.specs.declared.objects.Object.{Object};
 ghost use Rattle.inspect_changes.specs.declared.pairs.Pairs.{Pairs};
 ghost use Rattle.inspect_changes.specs.declared.way.Way.{Way};
 ghost use Rattle.inspect_rules.specs.declared.idle.Idle.{Idle};
-ghost use Rattle.inspect_reasons.specs.declared.cause.Cause.{Cause};
+ghost use Rattle.inspect_rules.specs.declared.cause.Cause.{Cause};
 ghost use Rattle.inspect_walks.specs.Lines.{step_text};
 ghost use Rattle.inspect_walks.specs.Sizes.{has_step_size};
 ghost use Rattle.inspect_walks.specs.declared.told_step.ToldStep.{ToldStep};
@@ -85,7 +85,7 @@ pub fn names_are_of_the_numbers()
         → port_name c p.id.0 ≡ Some p.name }
 {}
 
-/// As text, what is written is the lines of ways, and those of what differs.
+/// In the form of text, what is written is the lines of ways, and the lines of what differs.
 #[tactic(auto, unfolding(crate::specs::WayLines::ways_in, inspect_changes::specs::Lines::ways_text, crate::specs::ChangeLines::diff_in, inspect_changes::specs::DifferenceLines::diff_text))]
 pub fn text_is_as_without_a_form()
     ensures ways { (pairs : Pairs) (c : Config) → ways_in Text pairs c ≡ ways_text pairs c }

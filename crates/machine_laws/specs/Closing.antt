@@ -5,8 +5,8 @@ use Rattle.std.specs.declared.option.Option.TheVariants.{Some, None}
 use Rattle.std.specs.List.{list_any}
 use Rattle.ov_types.specs.First.{same_name}
 use Rattle.config_types.specs.declared.edit.Edit.{Edit}
-use Rattle.run_ties.specs.ConfigCheck.Edits.{edit_fault}
-use Rattle.run_ties.specs.ConfigCheck.Finding.{node_named}
+use Rattle.schedule_script.specs.ConfigCheck.Edits.{edit_fault}
+use Rattle.schedule_script.specs.ConfigCheck.Finding.{node_named}
 use Rattle.node_laws.specs.NodeModel.Maps.{Change}
 use Rattle.machine_model.specs.Setup.{Name, Move, checked, listed_by, moves}
 use Rattle.machine_model.specs.Session.{Agent, Carries, Controller, SessionEnd, Session}
@@ -15,7 +15,7 @@ use Rattle.machine_model.specs.Steps.{session_of}
 use Rattle.machine_model.specs.Rounds.{has_no_break}
 use Rattle.machine_model.specs.Events.{MachineEvent, Edits, Lose, Restart}
 
--- the same two nodes, in one order or the other
+-- two pairs are of the same two nodes, in one order or the other
 abbrev pub AreSamePair : Name → Name → Name → Name → Type 0
 AreSamePair a b c d = ((c ≡ a) × (d ≡ b)) ⊎ ((c ≡ b) × (d ≡ a))
 

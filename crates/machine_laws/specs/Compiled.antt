@@ -20,9 +20,9 @@ use Rattle.ov_types.specs.declared.rows.TableRow.{TableRow}
 use Rattle.route_targets.specs.Numbers.{circuit_address_of, circuit_instance_of, distinguisher_of}
 use Rattle.config_types.specs.declared.topology.Node.{Node}
 use Rattle.machine_model.specs.Setup.{Setup}
-use Rattle.run_ties.specs.ConfigCheck.Finding.{node_named}
-use Rattle.transform_forwarding_laws.specs.TransformModel.Tables.{Row}
-use Rattle.transform_forwarding_laws.specs.TransformModel.Compiled.{route_of}
+use Rattle.schedule_script.specs.ConfigCheck.Finding.{node_named}
+use Rattle.transform_model.specs.Tables.{Row}
+use Rattle.transform_model.specs.Compiled.{route_of}
 use Rattle.node_laws.specs.NodeModel.Keys.{Key, Row as RowKey}
 use Rattle.node_laws.specs.NodeModel.Values.{Value, Entry}
 use Rattle.node_laws.specs.NodeModel.Maps.{Map, objects}
@@ -122,7 +122,7 @@ rows_in feed i = map (λ e. ((i, e.0), e.1)) (entries (compiled_table feed i))
 abbrev pub control_rows : Map → List Row
 control_rows feed = flat_map (rows_in feed) (known_instances feed)
 
--- of what concerns an address: its labels, its access lists, and the rows of the instances that it needs
+-- what concerns an address: its labels, its access lists, and the rows of the instances that it needs
 abbrev pub agent_rows : Map → Addr → AgentRows
 agent_rows feed address = record {
   labels = filter_map (λ e. attached e.0 e.1) (slice feed address);

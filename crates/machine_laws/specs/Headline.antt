@@ -7,11 +7,11 @@ use Rattle.ov_types.specs.declared.rows.NodeRows.TheVariants as Rows
 use Rattle.route_targets.specs.Forwarding.{forwarding}
 use Rattle.config_types.specs.Form.{has_config_form, has_topology_form}
 use Rattle.config_types.specs.declared.topology.Node.{Node}
-use Rattle.run_ties.specs.ConfigCheck.Checked.{Checked}
-use Rattle.run_ties.specs.ConfigCheck.Rules.{first_broken}
-use Rattle.transform_forwarding_laws.specs.ReachPlain.Reachability.{reachability}
-use Rattle.transform_forwarding_laws.specs.TransformModel.Compiled.{agent_rows}
-use Rattle.transform_forwarding_laws.specs.TransformModel.Tables.{control_rows}
+use Rattle.schedule_script.specs.ConfigCheck.Checked.{Checked}
+use Rattle.schedule_script.specs.ConfigCheck.Rules.{first_broken}
+use Rattle.transform_model.specs.ReachPlain.Reachability.{reachability}
+use Rattle.transform_model.specs.Compiled.{agent_rows}
+use Rattle.transform_model.specs.Tables.{control_rows}
 use Rattle.node_laws.specs.NodeModel.Members.{Member}
 use Rattle.machine_model.specs.Setup.{Name, Setup, opening}
 use Rattle.machine_model.specs.Session.{Message}
@@ -45,7 +45,7 @@ ControlNodesShowTables w =
     is_settled w ≡ true → (n : NodeId) → Member n w.setup.topology.controllers
     → shown w n.name ≡ Rows.Control (control_rows w.setup.topology w.setup.config)
 
--- and the agent of each compute node the rows of its address
+-- once every session is up and nothing is in flight, the agent of each compute node shows the rows of its address
 abbrev pub AgentsShowRows : MachineState → Type 0
 AgentsShowRows w =
     is_settled w ≡ true → (n : Node) → Member n w.setup.topology.nodes

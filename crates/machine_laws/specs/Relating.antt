@@ -17,7 +17,7 @@ use Rattle.config_types.specs.declared.config.Port.{Port}
 use Rattle.config_types.specs.declared.topology.Node.{Node}
 use Rattle.policy_rules.specs.Standing.{AreRelated}
 use Rattle.policy_rules.specs.declared.numbered.NumberedRule.{NumberedRule}
-use Rattle.run_ties.specs.Ties.{Ties}
+use Rattle.schedule_script.specs.Ties.{Ties}
 use Rattle.machine_model.specs.Events.{forwarders}
 use Rattle.machine_model.specs.Network.{MachineState}
 use Rattle.machine_laws.specs.Stood.{InSome}
@@ -33,7 +33,7 @@ pub record StandsIn (c : Config) (number : PortNo) (network : InstanceId) : Type
   pub number_is : port.id ≡ number
   pub network_is : home.id ≡ network
 
--- it has two networks of these numbers, and a rule that lets packets through stands between them
+-- a configuration has two networks of these numbers, and a rule that lets packets through stands between them
 pub record AreRelatedIn (c : Config) (a b : InstanceId) : Type 0 where
   pub first : Network
   pub second : Network

@@ -10,7 +10,7 @@ use Rattle.ov_types.specs.declared.objects.LowKey.{LowKey}
 use Rattle.ov_types.specs.declared.objects.LowKey.TheVariants as key
 use Rattle.ov_types.specs.declared.objects.LowValue.{LowValue}
 use Rattle.ov_types.specs.declared.objects.LowValue.TheVariants as low
-use Rattle.run_ties.specs.Ties.{AreNear, Ties}
+use Rattle.schedule_script.specs.Ties.{AreNear, Ties}
 use Rattle.route_targets.specs.Numbers.{circuit_instance_of, circuit_label_of, other_side_of, port_label_of, target_of}
 use Rattle.node_laws.specs.NodeModel.Keys.{Key, Low, Vpn, Row, Publish}
 use Rattle.node_laws.specs.NodeModel.Maps.{Map}
@@ -73,7 +73,7 @@ module _ (t : Ties) where
       ⊎ ((a : InstanceId) × (b : InstanceId) × (t.chain_use number ≡ Some (a, b))
       × (IsPortLabel a label ⊎ IsPortLabel b label))
 
-  -- and one of a network to that network, or to one that it was related to
+  -- a row of a network's instance leads to that network, or to one that it was related to
   abbrev pub LeadsNear : InstanceId → LabelNo → Type 0
   LeadsNear a label = (b : InstanceId) × AreNear t a b × IsPortLabel b label
 

@@ -12,11 +12,11 @@ ghost use Rattle.config_types.specs.declared.topology.Node.{Node};
 ghost use Rattle.policy_rules.specs.Related.{all_rules};
 ghost use Rattle.policy_rules.specs.Standing.{IsBetween};
 ghost use Rattle.policy_rules.specs.declared.numbered.NumberedRule.{NumberedRule};
-ghost use Rattle.run_ties.specs.Broken.{broken_tie};
-ghost use Rattle.run_ties.specs.ConfigCheck.Checked.{Checked};
-ghost use Rattle.run_ties.specs.ConfigCheck.Sentences.{IsValid};
-ghost use Rattle.run_ties.specs.Ties.{HasPort, HasRelated, Ties};
-ghost use Rattle.run_ties.specs.declared.breaking.Tie.TheVariants as Tied;
+ghost use Rattle.schedule_script.specs.Broken.{broken_tie};
+ghost use Rattle.schedule_script.specs.ConfigCheck.Checked.{Checked};
+ghost use Rattle.schedule_script.specs.ConfigCheck.Sentences.{IsValid};
+ghost use Rattle.schedule_script.specs.Ties.{HasPort, HasRelated, Ties};
+ghost use Rattle.schedule_script.specs.declared.breaking.Tie.TheVariants as Tied;
 ghost use Rattle.machine_laws.specs.Refusing.{AtMomentsWithTies};
 ghost use Rattle.machine_laws.specs.Relating.{AreRelatedIn, DeliversAmongRelated, IsFirstToBreak, LeadsBy};
 ghost use Rattle.machine_laws.specs.Relating.{LeavesItsAddress, LeavesItsNetwork, LeavesItsNetworks, StandsIn};
@@ -43,7 +43,7 @@ pub fn packets_stay_among_networks_related_by_rules()
     ensures { AtMomentsWithTies DeliversAmongRelated }
 {}
 
-/// Of several ties that are broken the first in the document's order is named: no port before it is in another network
+/// Where several ties are broken, the first in the document's order is named: no port before it is in another network
 /// than the tie of its number has, no chain rule before it between other networks, and no compute node before it at
 /// another address or under another name.
 pub fn the_first_broken_tie_is_named()

@@ -29,8 +29,8 @@ use Rattle.config_types.specs.declared.config.Action.TheVariants.{Pass, Through}
 use Rattle.config_types.specs.declared.config.Network.{Network}
 use Rattle.config_types.specs.declared.topology.Node.{Node}
 use Rattle.policy_rules.proofs.Relations.{related_iff}
-use Rattle.run_ties.specs.ConfigCheck.Checked.{Checked}
-use Rattle.run_ties.specs.ConfigCheck.Sentences.{IsAround}
+use Rattle.schedule_script.specs.ConfigCheck.Checked.{Checked}
+use Rattle.schedule_script.specs.ConfigCheck.Sentences.{IsAround}
 use Rattle.reach_plain.specs.ChainExpand.Expansion.{expansion}
 use Rattle.reach_plain.specs.PolicyRules.Match.{Match}
 use Rattle.reach_plain.specs.PolicyRules.Standing.{AreRelated, PassesBetween}
@@ -38,10 +38,10 @@ use Rattle.reach_plain.specs.PolicyRules.Taking.{IsDeciding}
 use Rattle.reach_plain.proofs.PolicyRules.Taking.{deciding_iff}
 use Rattle.acl_compile.specs.Laws.{entry_by}
 use Rattle.acl_compile.proofs.Deciding.{first_entry}
-use Rattle.transform_forwarding_laws.specs.AclCompile.Oriented.{acl_rules, acl_value, ascending, does}
-use Rattle.transform_forwarding_laws.specs.TransformModel.IsObject.{IsObject, of_left_circuit, of_network, of_networks, of_port, of_right_circuit, of_use}
-use Rattle.transform_forwarding_laws.specs.TransformModel.Objects.{LowObject, low_objects}
-use Rattle.transform_forwarding_laws.proofs.TransformModel.Circuits.{left_instance, right_instance}
+use Rattle.transform_model.specs.AclCompile.Oriented.{acl_rules, acl_value, ascending, does}
+use Rattle.transform_model.specs.IsObject.{IsObject, of_left_circuit, of_network, of_networks, of_port, of_right_circuit, of_use}
+use Rattle.transform_model.specs.Objects.{LowObject, low_objects}
+use Rattle.transform_model.proofs.Circuits.{left_instance, right_instance}
 use Rattle.node_laws.specs.NodeModel.Agent.{acl_entry, needed_by, needed_for}
 use Rattle.node_laws.specs.NodeModel.Maps.{Map, as_object, object, objects}
 use Rattle.node_laws.specs.NodeModel.Members.{Member}
@@ -58,14 +58,14 @@ use Rattle.machine_laws.proofs.Lists.{zip_length}
 use Rattle.machine_laws.proofs.Imports.{Imported, hop_import, imported_is, network_import}
 use Rattle.machine_laws.proofs.Objects.{AttachmentKind, ascending_in, ascending_to, attachment_is, left_kind, object_is as low_is, port_kind, right_kind}
 use Rattle.machine_laws.proofs.Written.{sound_setup}
-use Rattle.hitless_laws.specs.Hands.{HasPortAt, ImportsNumber, KeepsInHand}
-use Rattle.hitless_laws.specs.Keeping.{IsValidAsWritten}
-use Rattle.hitless_laws.specs.Ways.{GoesBy, IsStop, LeadsTo, Offers, Opens, Track, Way, visited}
-use Rattle.hitless_laws.specs.Ways.Way.{inside, passing, through}
-use Rattle.hitless_laws.proofs.Alone.{one_entered, one_network, one_own}
-use Rattle.hitless_laws.proofs.Around.{alone, holds_port, one_numbered}
-use Rattle.hitless_laws.proofs.Offered.{decider_stands}
-use Rattle.hitless_laws.proofs.Uses.{one_chain}
+use Rattle.hitless_cells.specs.Hands.{HasPortAt, ImportsNumber, KeepsInHand}
+use Rattle.hitless_cells.specs.Keeping.{IsValidAsWritten}
+use Rattle.hitless_cells.specs.Ways.{GoesBy, IsStop, LeadsTo, Offers, Opens, Track, Way, visited}
+use Rattle.hitless_cells.specs.Ways.Way.{inside, passing, through}
+use Rattle.hitless_cells.proofs.Alone.{one_entered, one_network, one_own}
+use Rattle.hitless_cells.proofs.Around.{alone, holds_port, one_numbered}
+use Rattle.hitless_cells.proofs.Offered.{decider_stands}
+use Rattle.hitless_cells.proofs.OneRule.{one_chain}
 use Rattle.machine_moment_laws.specs.Arriving.{GoesOnIn, HeadsInCommon, IsCommonWay, Meets, StartsInCommon}
 use Rattle.machine_moment_laws.specs.Common.{WasHeld, common, entered, placed, standing}
 use Rattle.machine_moment_laws.proofs.Parts.{object_is}

@@ -14,20 +14,20 @@ use Rattle.config_types.specs.declared.edit.Object.{Object}
 use Rattle.config_types.specs.declared.edit.Object.TheVariants as Objects
 use Rattle.config_types.specs.declared.edit.ObjectKind.{ObjectKind}
 use Rattle.config_types.specs.declared.edit.ObjectKind.TheVariants as Kinds
-use Rattle.run_ties.specs.ConfigCheck.Checked.{Checked}
-use Rattle.run_ties.specs.ConfigCheck.EditLaws.{chains_of, networks_of, nodes_of, policies_of, ports_of, services_of}
-use Rattle.run_ties.specs.ConfigCheck.Edits.{chain_name, edited, network_name, node_name, policy_name, port_name, service_name}
+use Rattle.schedule_script.specs.ConfigCheck.Checked.{Checked}
+use Rattle.schedule_script.specs.ConfigCheck.EditLaws.{chains_of, networks_of, nodes_of, policies_of, ports_of, services_of}
+use Rattle.schedule_script.specs.ConfigCheck.Edits.{chain_name, edited, network_name, node_name, policy_name, port_name, service_name}
 use Rattle.reach_plain.specs.Reachability.{reachability}
 use Rattle.node_laws.specs.NodeModel.Members.{Member}
 use Rattle.machine_model.specs.Events.{after, forwarders}
 use Rattle.machine_model.specs.Network.{MachineState, start}
 use Rattle.machine_model.specs.Setup.{opening}
 use Rattle.machine_laws.specs.Headline.{IsWritten}
-use Rattle.hitless_laws.specs.Keeping.{IsHitless, IsValidAsWritten, Keep}
-use Rattle.hitless_laws.specs.Kinds.{DeleteIsHitless, NewIsHitless}
-use Rattle.hitless_laws.specs.Ways.{Way}
-use Rattle.hitless_laws.proofs.Both.{two_keep}
-use Rattle.hitless_laws.proofs.ByKind.{delete_chain, delete_network, new_chain, new_network, new_node, new_policy, new_port, new_service, delete_node, delete_policy, delete_port, delete_service}
+use Rattle.hitless_cells.specs.Keeping.{IsHitless, IsValidAsWritten, Keep}
+use Rattle.hitless_cells.specs.Kinds.{DeleteIsHitless, NewIsHitless}
+use Rattle.hitless_cells.specs.Ways.{Way}
+use Rattle.hitless_cells.proofs.Both.{two_keep}
+use Rattle.hitless_cells.proofs.ByKind.{delete_chain, delete_network, new_chain, new_network, new_node, new_policy, new_port, new_service, delete_node, delete_policy, delete_port, delete_service}
 use Rattle.machine_moment_laws.specs.Windows.{AtMomentsOfWindows, configurations}
 use Rattle.machine_moment_laws.proofs.CommonMoments.{all_are_written, first_one, others}
 use Rattle.machine_moment_laws.specs.Kept.{DeleteInterruptsNothing, GoesByEither, HitlessInterruptsNothing, IsOfEither, KeptInOneEdit, NewInterruptsNothing}

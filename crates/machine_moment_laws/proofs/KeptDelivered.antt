@@ -23,21 +23,21 @@ use Rattle.reach_plain.specs.Reachability.{reachability}
 use Rattle.config_types.specs.declared.config.Network.{Network}
 use Rattle.config_types.specs.declared.config.Port.{Port}
 use Rattle.config_types.specs.declared.topology.Node.{Node}
-use Rattle.run_ties.specs.ConfigCheck.Checked.{Checked}
-use Rattle.run_ties.specs.ConfigCheck.Finding.{port_numbered}
+use Rattle.schedule_script.specs.ConfigCheck.Checked.{Checked}
+use Rattle.schedule_script.specs.ConfigCheck.Finding.{port_numbered}
 use Rattle.reach_plain.proofs.ConfigCheck.Finders.{finds_port_numbered}
-use Rattle.transform_forwarding_laws.specs.TransformModel.Objects.{low_objects}
-use Rattle.transform_forwarding_laws.proofs.Valid.{one_node}
+use Rattle.transform_model.specs.Objects.{low_objects}
+use Rattle.transform_model.proofs.Valid.{one_node}
 use Rattle.node_laws.specs.NodeModel.Members.{Member}
 use Rattle.node_laws.proofs.NodeModel.Members.{contains_of, member_of}
 use Rattle.machine_model.specs.Events.{after, forwarders}
 use Rattle.machine_model.specs.Network.{MachineState, start}
 use Rattle.machine_model.specs.Setup.{opening}
 use Rattle.machine_laws.specs.Headline.{IsWritten}
-use Rattle.hitless_laws.specs.Keeping.{Keep}
-use Rattle.hitless_laws.specs.Ways.{LeadsTo, Offers, Track, Way, visited}
-use Rattle.hitless_laws.proofs.Alone.{one_entered, one_own}
-use Rattle.hitless_laws.proofs.Visits.{visits}
+use Rattle.hitless_cells.specs.Keeping.{Keep}
+use Rattle.hitless_cells.specs.Ways.{LeadsTo, Offers, Track, Way, visited}
+use Rattle.hitless_cells.proofs.Alone.{one_entered, one_own}
+use Rattle.hitless_cells.proofs.Visits.{visits}
 use Rattle.machine_moment_laws.specs.Arriving.{DeliversByOne, GoesOnIn, GoesTheCommonWay, IsLedBy, IsLedByAll, agent_at_node}
 use Rattle.machine_moment_laws.specs.Windows.{AtMomentsOfWindows}
 use Rattle.machine_moment_laws.proofs.Arriving.{go_the_common_way}

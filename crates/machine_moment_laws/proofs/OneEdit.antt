@@ -12,9 +12,9 @@ use Rattle.ov_types.specs.declared.numbers.PortNo.{PortNo}
 use Rattle.ov_types.specs.declared.packet.Packet.{Packet}
 use Rattle.ov_types.proofs.FirstLemmas.{contains_cases}
 use Rattle.config_types.specs.declared.edit.Edit.{Edit}
-use Rattle.run_ties.specs.ConfigCheck.Checked.{Checked}
-use Rattle.run_ties.specs.ConfigCheck.EditFault.{EditFault}
-use Rattle.run_ties.specs.ConfigCheck.Edits as config_edits
+use Rattle.schedule_script.specs.ConfigCheck.Checked.{Checked}
+use Rattle.schedule_script.specs.ConfigCheck.EditFault.{EditFault}
+use Rattle.schedule_script.specs.ConfigCheck.Edits as config_edits
 use Rattle.node_laws.specs.NodeModel.Members.{Member}
 use Rattle.node_laws.proofs.NodeModel.Members.{none_some}
 use Rattle.machine_model.specs.Events.{Break, Connect, Deliver, DeliverOctets, Edits, Lose, MachineEvent, Restart, Round, Settle, Show, Trace, edits, next}
@@ -24,12 +24,12 @@ use Rattle.machine_model.specs.Setup.{Name, Setup, checked, edited, edited_witho
 use Rattle.machine_model.proofs.NodesFact.{HasSetup, setup_steps}
 use Rattle.machine_model.proofs.Walk.{next_walk}
 use Rattle.machine_laws.specs.Headline.{IsWritten}
-use Rattle.hitless_laws.specs.Hands.{HasPortAt, ImportsNumber, KeepsInHand}
-use Rattle.hitless_laws.specs.Keeping.{IsValidAsWritten}
-use Rattle.hitless_laws.specs.Ways.{Offers, Track, Way}
-use Rattle.hitless_laws.proofs.ByKind.{parts_of_fault}
-use Rattle.hitless_laws.proofs.Changes.{Change, changed, turned}
-use Rattle.hitless_laws.proofs.Hands.{across}
+use Rattle.hitless_cells.specs.Hands.{HasPortAt, ImportsNumber, KeepsInHand}
+use Rattle.hitless_cells.specs.Keeping.{IsValidAsWritten}
+use Rattle.hitless_cells.specs.Ways.{Offers, Track, Way}
+use Rattle.hitless_cells.proofs.ByKind.{parts_of_fault}
+use Rattle.hitless_cells.proofs.OneEdit.{Change, changed, turned}
+use Rattle.hitless_cells.proofs.Hands.{across}
 use Rattle.machine_moment_laws.specs.Windows.{led_by, led_to, led_to_by}
 use Rattle.machine_moment_laws.specs.Kept.{IsInHand}
 

@@ -8,17 +8,17 @@ use Rattle.config_types.specs.Form.{has_event_form}
 use Rattle.config_types.specs.declared.config.Config.{Config}
 use Rattle.config_types.specs.declared.event.Event.{Event as Written}
 use Rattle.config_types.specs.declared.event.Event.TheVariants as written
-use Rattle.run_ties.specs.ConfigCheck.Checked.{Checked}
-use Rattle.schedule_tied_answers.specs.declared.answer.TiedAnswer.{TiedAnswer}
+use Rattle.schedule_script.specs.ConfigCheck.Checked.{Checked}
+use Rattle.schedule_script.specs.declared.tied_answer.TiedAnswer.{TiedAnswer}
 use Rattle.machine_model.specs.Setup.{opening}
 use Rattle.machine_model.specs.Events.{event_of}
 use Rattle.machine_laws.specs.Headline.{IsWritten}
 use Rattle.machine_laws.specs.Refusing.{TiedNetwork, after_tied, next_tied, tied_start}
-use Rattle.schedule_laws.specs.RunningModel.Stands.{message_size}
-use Rattle.schedule_laws.specs.Runs.{answer_tied, answers, configs_so_far, run_tied, tied_moment}
-use Rattle.schedule_laws.proofs.RunningModel.Sizes.{positive}
-use Rattle.schedule_laws.proofs.AsCompiled.{forms_of_front}
-use Rattle.schedule_laws.proofs.Kept.{asked_with_ties}
+use Rattle.machine_moment_laws.specs.RunningModel.Stands.{message_size}
+use Rattle.machine_moment_laws.specs.Runs.{answer_tied, answers, configs_so_far, run_tied, tied_moment}
+use Rattle.machine_moment_laws.proofs.RunningModel.Sizes.{positive}
+use Rattle.machine_moment_laws.proofs.AsCompiled.{forms_of_front}
+use Rattle.machine_moment_laws.proofs.TiesKept.{asked_with_ties}
 use Rattle.machine_moment_laws.specs.Permission.{OfEachPacket, PassesAsPermitted}
 use Rattle.machine_moment_laws.specs.PermissionSchedules.{IsPermittedThroughout, OfOutcome, PermittedSoFar}
 use Rattle.machine_moment_laws.proofs.Permitted.{passes}

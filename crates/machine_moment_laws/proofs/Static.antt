@@ -16,9 +16,9 @@ use Rattle.ov_types.specs.declared.objects.LowValue.{LowValue}
 use Rattle.ov_types.specs.declared.objects.LowValue.TheVariants as low
 use Rattle.ov_types.specs.declared.prefix.Addr.{Addr}
 use Rattle.config_types.specs.declared.topology.Node.{Node}
-use Rattle.run_ties.specs.ConfigCheck.Checked.{Checked}
-use Rattle.run_ties.specs.ConfigCheck.Finding.{node_named}
-use Rattle.run_ties.proofs.ConfigCheck.Validity.{valid_iff}
+use Rattle.schedule_script.specs.ConfigCheck.Checked.{Checked}
+use Rattle.schedule_script.specs.ConfigCheck.Finding.{node_named}
+use Rattle.schedule_script.proofs.ConfigCheck.Validity.{valid_iff}
 use Rattle.node_laws.specs.NodeModel.Maps.{Map, as_object, object, objects}
 use Rattle.node_laws.specs.NodeModel.Members.{Member}
 use Rattle.node_laws.specs.NodeModel.Uses.{hop_imports, imports, is_hop, network_imports, place_of, use_from, use_of}
@@ -32,7 +32,7 @@ use Rattle.machine_laws.specs.Compiled.{Attachment, as_attachment, attachments}
 use Rattle.machine_laws.specs.Headline.{IsWritten}
 use Rattle.machine_laws.specs.Setups.{IsSoundSetup}
 use Rattle.machine_laws.proofs.Written.{sound_setup}
-use Rattle.transform_forwarding_laws.proofs.Valid.{one_node_at}
+use Rattle.transform_model.proofs.Valid.{one_node_at}
 use Rattle.machine_moment_laws.specs.Common.{ChangesHands, common, common_object, is_object, standing, stands_at}
 use Rattle.machine_moment_laws.proofs.Above.{attachment_above}
 use Rattle.machine_moment_laws.proofs.Here.{stands_among, stands_there}

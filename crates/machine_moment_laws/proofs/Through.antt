@@ -20,9 +20,9 @@ use Rattle.ov_types.proofs.FirstLemmas.{contains_at}
 use Rattle.route_targets.specs.Numbers.{circuit_instance_of, circuit_label_of, hop_instance_of, left_circuit_of, port_label_of, right_circuit_of}
 use Rattle.config_types.specs.declared.config.Network.{Network}
 use Rattle.config_types.specs.declared.topology.Node.{Node}
-use Rattle.run_ties.specs.ConfigCheck.Checked.{Checked}
+use Rattle.schedule_script.specs.ConfigCheck.Checked.{Checked}
 use Rattle.reach_plain.specs.ChainExpand.Expansion.{expansion}
-use Rattle.transform_forwarding_laws.specs.AclCompile.Oriented.{ascending}
+use Rattle.transform_model.specs.AclCompile.Oriented.{ascending}
 use Rattle.node_laws.specs.NodeModel.Agent.{needed_by}
 use Rattle.node_laws.specs.NodeModel.Maps.{Map, object, objects}
 use Rattle.node_laws.specs.NodeModel.Members.{Member}
@@ -36,8 +36,8 @@ use Rattle.machine_laws.specs.Headline.{IsWritten}
 use Rattle.machine_laws.proofs.Circuits.{other_of_left, other_of_right}
 use Rattle.machine_laws.proofs.Lists.{some_at}
 use Rattle.machine_laws.proofs.Objects.{ascending_in}
-use Rattle.hitless_laws.specs.Ways.{IsStop, Offers, Track, visited}
-use Rattle.hitless_laws.specs.Ways.Way.{through}
+use Rattle.hitless_cells.specs.Ways.{IsStop, Offers, Track, visited}
+use Rattle.hitless_cells.specs.Ways.Way.{through}
 use Rattle.machine_moment_laws.specs.Arriving.{IsCommonWay}
 use Rattle.machine_moment_laws.specs.Common.{common, placed, standing, stands_at}
 use Rattle.machine_moment_laws.proofs.Parts.{object_is}

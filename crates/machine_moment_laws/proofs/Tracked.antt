@@ -27,20 +27,20 @@ use Rattle.config_types.specs.declared.config.Port.{Port}
 use Rattle.config_types.specs.declared.config.Service.{Service}
 use Rattle.config_types.specs.declared.topology.Node.{Node}
 use Rattle.config_types.specs.declared.topology.Topology.{Topology}
-use Rattle.run_ties.specs.ConfigCheck.Checked.{Checked}
-use Rattle.run_ties.specs.ConfigCheck.Sentences.{NamesEnds}
+use Rattle.schedule_script.specs.ConfigCheck.Checked.{Checked}
+use Rattle.schedule_script.specs.ConfigCheck.Sentences.{NamesEnds}
 use Rattle.reach_plain.specs.ChainExpand.Expansion.{expansion}
 use Rattle.reach_plain.specs.PolicyRules.Matching.{speaks_both_ways}
 use Rattle.reach_plain.specs.PolicyRules.NumberedRule.{NumberedRule}
 use Rattle.reach_plain.specs.PolicyRules.Related.{all_rules, fits, rules_between}
 use Rattle.reach_plain.specs.PolicyRules.Standing.{AreRelated, IsBetween, IsEnd, LetsThrough, PassesBetween}
 use Rattle.reach_plain.proofs.PolicyRules.Standing.{between_iff, fits_iff}
-use Rattle.transform_forwarding_laws.specs.AclCompile.Oriented.{acl_rules, acl_value, ascending, backwards, does, entries_of, forward_entry, forwards, mirrored_entry, oriented}
-use Rattle.transform_forwarding_laws.specs.TransformModel.IsObject.{IsHop, of_left_circuit, of_networks, of_port, of_right_circuit, of_use}
-use Rattle.transform_forwarding_laws.specs.TransformModel.IsRow.{IsCircuitAt, IsPort}
-use Rattle.transform_forwarding_laws.specs.TransformModel.IsUse.{IsLeftCircuit, IsRightCircuit, IsUse}
-use Rattle.transform_forwarding_laws.specs.TransformModel.Objects.{LowObject, attached_circuit, attached_port}
-use Rattle.transform_forwarding_laws.specs.TransformModel.Uses.{Circuit, ConfiguredUse}
+use Rattle.transform_model.specs.AclCompile.Oriented.{acl_rules, acl_value, ascending, backwards, does, entries_of, forward_entry, forwards, mirrored_entry, oriented}
+use Rattle.transform_model.specs.IsObject.{IsHop, of_left_circuit, of_networks, of_port, of_right_circuit, of_use}
+use Rattle.transform_model.specs.IsRow.{IsCircuitAt, IsPort}
+use Rattle.transform_model.specs.IsUse.{IsLeftCircuit, IsRightCircuit, IsUse}
+use Rattle.transform_model.specs.Objects.{LowObject, attached_circuit, attached_port}
+use Rattle.transform_model.specs.Uses.{Circuit, ConfiguredUse}
 use Rattle.node_laws.specs.NodeModel.Agent.{entered_by}
 use Rattle.node_laws.specs.NodeModel.Maps.{object}
 use Rattle.node_laws.specs.NodeModel.Members.{Member}
@@ -51,10 +51,10 @@ use Rattle.machine_model.specs.Setup.{low_in, opening}
 use Rattle.machine_laws.specs.Headline.{IsWritten}
 use Rattle.machine_laws.proofs.Imports.{network_in, small}
 use Rattle.machine_laws.proofs.Lists.{zip_length}
-use Rattle.hitless_laws.specs.Ways.{IsStop, OffersUse, Opens, SpeaksOf, Track, Way}
-use Rattle.hitless_laws.specs.Ways.Way.{inside, passing, through}
-use Rattle.hitless_laws.proofs.Alone.{one_network}
-use Rattle.hitless_laws.proofs.Uses.{among_all}
+use Rattle.hitless_cells.specs.Ways.{IsStop, OffersUse, Opens, SpeaksOf, Track, Way}
+use Rattle.hitless_cells.specs.Ways.Way.{inside, passing, through}
+use Rattle.hitless_cells.proofs.Alone.{one_network}
+use Rattle.hitless_cells.proofs.OneRule.{among_all}
 use Rattle.machine_moment_laws.specs.Common.{entered}
 use Rattle.machine_moment_laws.proofs.Made.{has_object, valid}
 

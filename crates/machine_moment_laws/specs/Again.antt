@@ -6,15 +6,15 @@ use Rattle.ov_types.specs.declared.numbers.ServiceNo.{ServiceNo}
 use Rattle.ov_types.specs.declared.packet.Outcome.TheVariants.{Delivered}
 use Rattle.ov_types.specs.declared.packet.Packet.{Packet}
 use Rattle.route_targets.specs.Forwarding.{forwarding}
-use Rattle.run_ties.specs.ConfigCheck.Checked.{Checked}
+use Rattle.schedule_script.specs.ConfigCheck.Checked.{Checked}
 use Rattle.reach_plain.specs.Reachability.{reachability}
-use Rattle.hitless_laws.specs.Keeping.{Keep}
-use Rattle.hitless_laws.specs.Ways.{Offers, Track, Way, visited}
+use Rattle.hitless_cells.specs.Keeping.{Keep}
+use Rattle.hitless_cells.specs.Ways.{Offers, Track, Way, visited}
 use Rattle.machine_model.specs.Events.{forwarders}
 use Rattle.machine_model.specs.Network.{MachineState}
 use Rattle.machine_moment_laws.specs.Kept.{IsDeliveredBy, IsInHand}
 
--- none of these ways, by the track that all configurations offer it with, visits more services
+-- no way among some visits more services, by the track that all configurations offer it with
 abbrev pub VisitAtMost : ℕ → List Checked → Packet → PortNo → List Way → Type 0
 VisitAtMost most cs p number ways =
     (way : Way) (track : Track) → Contains ways way → All (λ x. Offers x p number way track) cs

@@ -1,4 +1,5 @@
--- The same of the answers of a schedule, place by place, where ties are kept.
+-- Packets that configurations keep to a port are delivered there, said of the answers of a schedule, place by place,
+-- where ties are kept.
 use Rattle.std.specs.Prelude.{ℕ, List, drop, map, take, ⊤}
 use Rattle.std.specs.List.{AllByRecursion}
 use Rattle.ov_types.specs.declared.numbers.PortNo.{PortNo}
@@ -6,17 +7,17 @@ use Rattle.ov_types.specs.declared.packet.Outcome.{Outcome}
 use Rattle.ov_types.specs.declared.packet.Packet.{Packet}
 use Rattle.config_types.specs.declared.event.Event.{Event}
 use Rattle.config_types.specs.declared.event.Event.TheVariants.{Trace}
-use Rattle.run_ties.specs.ConfigCheck.Checked.{Checked}
+use Rattle.schedule_script.specs.ConfigCheck.Checked.{Checked}
 use Rattle.schedule_script.specs.declared.answer.Answer.TheVariants.{Traced}
-use Rattle.schedule_tied_answers.specs.declared.answer.TiedAnswer.{TiedAnswer}
-use Rattle.schedule_tied_answers.specs.declared.answer.TiedAnswer.TheVariants.{Answered}
+use Rattle.schedule_script.specs.declared.tied_answer.TiedAnswer.{TiedAnswer}
+use Rattle.schedule_script.specs.declared.tied_answer.TiedAnswer.TheVariants.{Answered}
 use Rattle.machine_model.specs.Events.{event_of}
 use Rattle.machine_laws.specs.Refusing.{kept_events}
-use Rattle.schedule_laws.specs.Isolated.{StandsAt}
-use Rattle.schedule_laws.specs.RunningModel.Stands.{message_size}
-use Rattle.schedule_laws.specs.Runs.{tied_moment}
-use Rattle.hitless_laws.specs.Keeping.{Keep}
-use Rattle.hitless_laws.specs.Ways.{Way}
+use Rattle.machine_moment_laws.specs.Isolated.{StandsAt}
+use Rattle.machine_moment_laws.specs.RunningModel.Stands.{message_size}
+use Rattle.machine_moment_laws.specs.Runs.{tied_moment}
+use Rattle.hitless_cells.specs.Keeping.{Keep}
+use Rattle.hitless_cells.specs.Ways.{Way}
 use Rattle.machine_moment_laws.specs.Windows.{IsBeginning, IsOfOneEdit, IsOfWindow, configurations}
 use Rattle.machine_moment_laws.specs.Kept.{IsDeliveredBy, IsInHand}
 
@@ -26,7 +27,8 @@ pub record IsWindowSince (x : Checked) (since : ℕ) (es : List Event) : Type 0 
   pub begins : IsBeginning (tied_moment x (take since es)).network
   pub goes_on : AllByRecursion IsOfWindow (map event_of (drop since es))
 
--- its configurations: that of its first moment, and those that the accepted edits since then led to, in their order
+-- the configurations of a window: that of its first moment, and those that the accepted edits since then led to, in
+-- their order
 abbrev pub configurations_since : Checked → ℕ → List Event → List Checked
 configurations_since x since es =
     configurations message_size (tied_moment x (take since es)).network

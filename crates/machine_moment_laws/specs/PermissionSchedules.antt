@@ -1,15 +1,15 @@
--- The same of the answers of a schedule, place by place.
+-- Packets pass only as configurations so far permitted, said of the answers of a schedule, place by place.
 use Rattle.std.specs.Prelude.{ℕ, List, take, ⊤}
 use Rattle.ov_types.specs.declared.packet.Outcome.{Outcome}
 use Rattle.ov_types.specs.declared.packet.Packet.{Packet}
 use Rattle.config_types.specs.declared.event.Event.{Event}
 use Rattle.config_types.specs.declared.event.Event.TheVariants.{Trace}
-use Rattle.run_ties.specs.ConfigCheck.Checked.{Checked}
+use Rattle.schedule_script.specs.ConfigCheck.Checked.{Checked}
 use Rattle.schedule_script.specs.declared.answer.Answer.TheVariants.{Traced}
-use Rattle.schedule_tied_answers.specs.declared.answer.TiedAnswer.{TiedAnswer}
-use Rattle.schedule_tied_answers.specs.declared.answer.TiedAnswer.TheVariants.{Answered}
-use Rattle.schedule_laws.specs.Isolated.{StandsAt}
-use Rattle.schedule_laws.specs.Runs.{configs_so_far}
+use Rattle.schedule_script.specs.declared.tied_answer.TiedAnswer.{TiedAnswer}
+use Rattle.schedule_script.specs.declared.tied_answer.TiedAnswer.TheVariants.{Answered}
+use Rattle.machine_moment_laws.specs.Isolated.{StandsAt}
+use Rattle.machine_moment_laws.specs.Runs.{configs_so_far}
 use Rattle.machine_moment_laws.specs.Permission.{PassesAsPermitted}
 
 -- where an event is the trace of a packet, this is said of the packet and of the outcome that is answered

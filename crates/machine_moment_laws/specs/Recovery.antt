@@ -12,8 +12,8 @@ use Rattle.ov_types.specs.declared.packet.Outcome.TheVariants.{Delivered}
 use Rattle.ov_types.specs.declared.packet.Packet.{Packet}
 use Rattle.route_targets.specs.Forwarding.{forwarding, walk}
 use Rattle.config_types.specs.declared.topology.Node.{Node}
-use Rattle.run_ties.specs.ConfigCheck.Checked.{Checked}
-use Rattle.transform_forwarding_laws.specs.TransformModel.Objects.{low_objects}
+use Rattle.schedule_script.specs.ConfigCheck.Checked.{Checked}
+use Rattle.transform_model.specs.Objects.{low_objects}
 use Rattle.node_laws.specs.NodeModel.Members.{Member}
 use Rattle.node_laws.specs.NodeModel.Reaching.{Side, sides}
 use Rattle.machine_model.specs.Events.{MachineEvent, Round, Settle, after, forwarders, next}
@@ -61,7 +61,7 @@ AtMomentsSince P =
     → P (rounds_in size (after size (start x) before) es) (configurations size (after size (start x) before) es)
     (after size (after size (start x) before) es)
 
--- so many rounds later
+-- a fact that holds once as many rounds have passed
 abbrev pub Later : ℕ → (List Checked → MachineState → Type 0) → ℕ → List Checked → MachineState → Type 0
 Later least P rounds cs w = least ≤ rounds → P cs w
 

@@ -1,17 +1,17 @@
--- The same of the answers of a schedule, place by place.
+-- Packets that the policies of the moment refuse are dropped, said of the answers of a schedule, place by place.
 use Rattle.std.specs.Prelude.{◌≡◌, ℕ, List, drop, map, take, true, ⊤}
 use Rattle.ov_types.specs.declared.packet.Outcome.{Outcome}
 use Rattle.ov_types.specs.declared.packet.Packet.{Packet}
 use Rattle.config_types.specs.declared.event.Event.{Event}
 use Rattle.config_types.specs.declared.event.Event.TheVariants.{Trace}
-use Rattle.run_ties.specs.ConfigCheck.Checked.{Checked}
+use Rattle.schedule_script.specs.ConfigCheck.Checked.{Checked}
 use Rattle.schedule_script.specs.declared.answer.Answer.TheVariants.{Traced}
-use Rattle.schedule_tied_answers.specs.declared.answer.TiedAnswer.{TiedAnswer}
-use Rattle.schedule_tied_answers.specs.declared.answer.TiedAnswer.TheVariants.{Answered}
+use Rattle.schedule_script.specs.declared.tied_answer.TiedAnswer.{TiedAnswer}
+use Rattle.schedule_script.specs.declared.tied_answer.TiedAnswer.TheVariants.{Answered}
 use Rattle.machine_model.specs.Events.{event_of}
 use Rattle.machine_model.specs.Rounds.{is_unbroken}
-use Rattle.schedule_laws.specs.Isolated.{StandsAt}
-use Rattle.schedule_laws.specs.Runs.{tied_moment}
+use Rattle.machine_moment_laws.specs.Isolated.{StandsAt}
+use Rattle.machine_moment_laws.specs.Runs.{tied_moment}
 use Rattle.machine_moment_laws.specs.Revocation.{DropsIfRefused, HasTwoRounds}
 
 -- a fact of what becomes of a packet, where the answer says it

@@ -8,16 +8,16 @@ use Rattle.config_check.specs.Edits.{edited as edit_made}
 use Rattle.config_types.specs.declared.event.Event.{Event}
 use Rattle.config_types.specs.declared.edit.Edit.{Edit}
 use Rattle.config_types.specs.declared.event.Event.TheVariants as event
-use Rattle.run_ties.specs.Kept.{AreAlike, Kept, ties_in}
-use Rattle.run_ties.specs.Ties.{Ties}
-use Rattle.run_ties.specs.declared.breaking.Tie.{Tie}
+use Rattle.schedule_script.specs.Kept.{AreAlike, Kept, ties_in}
+use Rattle.schedule_script.specs.Ties.{Ties}
+use Rattle.schedule_script.specs.declared.breaking.Tie.{Tie}
 use Rattle.running_laws.specs.MachineLaws.Running.{ties_with}
 use Rattle.running_nodes.specs.MachineModel.Setup.{Move, edited, moves, opening}
 use Rattle.running_nodes.specs.RunningModel.Seats.{Configuring, Seat, seat}
 use Rattle.schedule_script.specs.declared.answer.Answer.TheVariants.{Did}
-use Rattle.schedule_tied_answers.specs.declared.answer.TiedAnswer.{TiedAnswer}
-use Rattle.schedule_tied_answers.specs.declared.answer.TiedAnswer.TheVariants.{Answered, EditTied}
-use Rattle.machine_moment_laws.specs.ScheduleLaws.Runs.{broken_by}
+use Rattle.schedule_script.specs.declared.tied_answer.TiedAnswer.{TiedAnswer}
+use Rattle.schedule_script.specs.declared.tied_answer.TiedAnswer.TheVariants.{Answered, EditTied}
+use Rattle.machine_moment_laws.specs.Runs.{broken_by}
 use Rattle.net_machine.specs.declared.ends.SessionEnds.{SessionEnds}
 use Rattle.net_machine.specs.declared.editing.Moved.{Moved}
 use Rattle.net_machine.specs.declared.editing.Moved.TheVariants.{Yes, No}
@@ -54,16 +54,16 @@ IsFound x e ties (Faulty f) then = (edit_fault x e ≡ Some f) × (then ≡ ties
 IsFound x e ties (Tied tie) then = (broken_at (ties_in ties) x (event.Edit e) ≡ Some tie) × (then ≡ ties)
 
 -- ---- the order of a round
--- it is that of the sessions of the topology that the configuration node has
+-- the order of a round is that of the sessions of the topology that the configuration node has
 abbrev pub IsOrderOf : List Seat → List SessionEnds → Type 0
 IsOrderOf seats order = (x : Checked) → (seat seats 0).who ≡ Configuring x → order ≡ order_of seats x.topology
 
--- it is made anew where a compute node moved
+-- the order of a round is made anew where a compute node moved
 abbrev pub OrdersThen : Moved → List Seat → List SessionEnds → List SessionEnds → Type 0
 OrdersThen Yes after order then = IsOrderOf after then
 OrdersThen No after order then = then ≡ order
 
--- else the nodes and their sessions stay
+-- the order of a round after a move; where there is none the nodes and their sessions stay
 abbrev pub OrdersAs : Option Move → List Seat → List Seat → List SessionEnds → List SessionEnds → Type 0
 OrdersAs None seats after order then = Keeps seats after × (then ≡ order)
 OrdersAs (Some m) seats after order then = IsOrderOf after then

@@ -2,8 +2,8 @@
 ghost use Rattle.std.specs.Prelude.{◌≡◌, ◌++◌, ◌∷◌, [], map, true, false, IfOk, IsErr, IsTrue, OnErr, OnOk};
 ghost use Rattle.report.specs.Answers.{IsAnswerTo};
 ghost use Rattle.config_types.specs.Form.{has_event_form};
-ghost use Rattle.run_ties.specs.Kept.{AreAlike, ties_in};
-ghost use Rattle.run_ties.specs.Tying.{ties_of};
+ghost use Rattle.schedule_script.specs.Kept.{AreAlike, ties_in};
+ghost use Rattle.schedule_script.specs.Tying.{ties_of};
 ghost use Rattle.running_nodes.specs.MachineModel.Events.{event_of};
 ghost use Rattle.running_nodes.specs.MachineModel.Setup.{checked};
 ghost use Rattle.running_nodes.specs.MachineModel.Setup.{opening as opening_setup};
@@ -12,14 +12,14 @@ ghost use Rattle.running_laws.specs.MachineLaws.Moments.{SettlesInTime};
 ghost use Rattle.running_nodes.specs.RunningModel.Seats.{whos};
 ghost use Rattle.running_nodes.specs.RunningModel.Stands.{StandsFor, message_size};
 ghost use Rattle.running_nodes.specs.RunningModel.Steps.{fresh_seat};
-ghost use Rattle.schedule_tied_answers.specs.Answers.{OfAnswer};
-ghost use Rattle.machine_moment_laws.specs.ScheduleLaws.TiedCompiled.{EndsAtOnce, IsAsCompiled};
-ghost use Rattle.machine_moment_laws.specs.ScheduleLaws.Isolated.{DeliversSoFar, DeliversTied};
+ghost use Rattle.schedule_script.specs.Answers.{OfAnswer};
+ghost use Rattle.machine_moment_laws.specs.TiedCompiled.{EndsAtOnce, IsAsCompiled};
+ghost use Rattle.machine_moment_laws.specs.Isolated.{DeliversSoFar, DeliversTied};
 ghost use Rattle.machine_moment_laws.specs.RevocationSchedules.{RevokedSoFar};
 ghost use Rattle.machine_moment_laws.specs.PermissionSchedules.{PermittedSoFar};
 ghost use Rattle.machine_moment_laws.specs.KeptSchedules.{KeptSoFar};
 ghost use Rattle.machine_moment_laws.specs.AgainSchedules.{AgainSoFar};
-ghost use Rattle.machine_moment_laws.specs.ScheduleLaws.Runs.{answer_tied, tied_moment};
+ghost use Rattle.machine_moment_laws.specs.Runs.{answer_tied, tied_moment};
 ghost use Rattle.net_machine.specs.Shown.{ShowsCompiled};
 ghost use Rattle.net_machine.specs.Tying.{OfTie};
 
@@ -30,9 +30,8 @@ use crate::tying::happen_tied;
 use config_check::Valid;
 use config_types::Event;
 use ov_types::{Items, NoMemory};
-use run_ties::Ties;
 use running_nodes::Nodes;
-use schedule_tied_answers::TiedAnswer;
+use schedule_script::{TiedAnswer, Ties};
 use std::alloc::Global;
 use std::marker::Model;
 
@@ -87,6 +86,7 @@ fn with_nodes(alloc: Global, nodes: Nodes, opening: Valid, ties: Ties) -> Result
     ensures ties { IfOk result (λ net. AreAlike (ties_in net.ties) (tied_moment net.opening net.events).ties) }
     ensures rounds { IfOk result (λ net. SettlesInTime message_size (tied_moment net.opening net.events).network) }
 {
+    // (for its clauses: the configuration is valid and of the written form)
     let _config = opening.config();
     let order = order_of(alloc, &nodes, opening.topology())?;
     Ok(Net {

@@ -14,7 +14,7 @@ use Rattle.ov_link.specs.Delivery.{Delivers}
 use Rattle.ov_link.specs.FailingState.{FailingState}
 use Rattle.ov_link.specs.declared.step.Input.{Input}
 use Rattle.ov_types.specs.declared.rows.NodeId.{NodeId}
-use Rattle.node_items.specs.Beginning as item
+use Rattle.node_core.specs.Beginning as item
 use Rattle.node_model.specs.Maps.{Map, difference}
 use Rattle.node_model.specs.Paths.{Told}
 use Rattle.node_model.specs.Step.{Beginning, NodeKind, Post, Steps, begun, changes, nothing, planned, post, replies, told_all}
@@ -29,8 +29,8 @@ use Rattle.running_model.specs.ControlNode.NodeCause.TheVariants as Cause
 use Rattle.running_model.specs.ControlNode.ControlPlan.{ControlPlan}
 use Rattle.running_model.specs.MachineModel.Setup.{Name}
 use Rattle.running_model.specs.MachineModel.Network.{config as named_config}
-use Rattle.control_silent_agent_laws.specs.Quiet.{IsWithout, SameButQuiet}
-use Rattle.control_silent_agent_laws.proofs.Quiet.{quiet_by_agent, quiet_by_peers}
+use Rattle.node_laws.specs.Quiet.{IsWithout, SameButQuiet}
+use Rattle.node_laws.proofs.Quiet.{quiet_by_agent, quiet_by_peers}
 use Rattle.running_model.specs.Controls as controls
 use Rattle.running_model.specs.Controls.{agents_at, controls_of, plan_of, told_at}
 use Rattle.running_model.specs.Seats.{Controlling, name_there, names_of, others_of}
