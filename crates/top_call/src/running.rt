@@ -7,7 +7,7 @@ ghost use Rattle.config_model.specs.Event.{run_at};
 ghost use Rattle.config_types.specs.Form.{has_event_form};
 ghost use Rattle.schedule_script.specs.Kept.{AreAlike, ties_in};
 ghost use Rattle.net_machine.specs.MachineLaws.Headline.{IsWritten};
-ghost use Rattle.net_machine.specs.RunningModel.Stands.{StandsFor};
+ghost use Rattle.net_machine.specs.RunningNodes.Stands.{StandsFor};
 ghost use Rattle.machine_model.specs.Events.{event_of};
 ghost use Rattle.machine_model.specs.Setup.{opening};
 ghost use Rattle.ov_io.specs.Inputs.{TookFront};
@@ -41,7 +41,7 @@ struct Schedule {
 }
 
 /// What `run` takes from a value.
-#[tactic(auto, unfolding(crate::specs::Answers::run_value))]
+#[tactic(auto, unfolding(crate::specs::RunAnswers::run_value))]
 fn schedule_taken(alloc: Global, value: &Value) -> Result<Schedule, Unfit>
     ensures fit { IfOk result (λ s. run_value (view value.now) ≡ answer_good (run_text s.valid s.events)) }
     ensures read { IfOk result (λ s. run_at [] (view value.now) ≡ Ok (input_of s.valid s.events)) }
@@ -59,7 +59,7 @@ fn schedule_taken(alloc: Global, value: &Value) -> Result<Schedule, Unfit>
 }
 
 /// What `run` takes from an input.
-#[tactic(auto, unfolding(crate::specs::Answers::run_answer))]
+#[tactic(auto, unfolding(crate::specs::RunAnswers::run_answer))]
 fn schedule_asked(alloc: Global, octets: &[u8]) -> Result<Schedule, Unfit>
     ensures fit { IfOk result (λ s. run_answer octets.now ≡ answer_good (run_text s.valid s.events)) }
     ensures read { IfOk result (λ s. AreReadAs octets.now (input_of s.valid s.events)) }

@@ -1,7 +1,10 @@
-use Rattle.vpn_tables.proofs.WithLed.{with_led}
+use Rattle.std.proofs.Common.{◌↔◌, IfOk, subst}
+use Rattle.path_select.specs.NodeModel.Members.{Member}
+use Rattle.path_select.specs.NodeModel.Paths.{Holdings}
+use Rattle.path_select.specs.declared.selection.Path.{Path}
+use Rattle.vpn_holdings.specs.At.{paths_at}
 use Rattle.vpn_tables.proofs.tables.VpnTables.paths_at.Goals as goal
 
 pub returns : goal.returns
 returns c =
-    with_led c.args.self.now c.args.i c.args.prefix.now c.uses_are_short.ensures c.in_ok-paths.paths.items c.push_led.new.paths.items c.push_led-2.new.paths.items
-    c.in_ok-paths.ensures c.in_ok-push_led.ensures c.in_ok-push_led-2.ensures
+    subst (λ (h : Holdings). IfOk c.paths_at.result (λ paths. (p : Path) → Member p paths.items ↔ Member p (paths_at h c.args.i c.args.prefix.now))) c.self.view_is c.paths_at.ensures
