@@ -17,9 +17,7 @@ use report::{
     answer_lines, drop_lines, fault_lines, incomplete_lines, notification_lines, open_lines,
     put_lines, summary_lines, tied_answer_lines,
 };
-use run_ties::Tie;
-use schedule_script::{Answer, Event};
-use schedule_tied_answers::TiedAnswer;
+use schedule_script::{Answer, Event, Tie, TiedAnswer};
 use std::alloc::Global;
 
 pub(crate) fn tell(

@@ -7,7 +7,7 @@ use config_check::Valid;
 use ov_io::TextOut;
 use ov_types::written::address_from;
 use ov_types::{Addr, InstanceId, PortNo};
-use run_ties::{TiedFault, TiedRefusal, Ties, apply_tied_edit};
+use schedule_script::{TiedFault, TiedRefusal, Ties, apply_tied_edit};
 use std::alloc::Global;
 use std::fmt::Debug;
 

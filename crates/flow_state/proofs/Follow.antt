@@ -4,9 +4,9 @@ use Rattle.std.specs.List.{IsDistinct}
 use Rattle.config_types.specs.declared.edit.Edit.{Edit}
 use Rattle.config_check.specs.Checked.{Checked}
 use Rattle.config_check.specs.Edits.{edited}
-use Rattle.run_ties.specs.Tied.{tied_fault}
-use Rattle.run_ties.specs.Tying.{joined}
-use Rattle.run_ties.specs.declared.edits.TiedFault.{TiedFault}
+use Rattle.schedule_script.specs.Tied.{tied_fault}
+use Rattle.schedule_script.specs.Tying.{joined}
+use Rattle.schedule_script.specs.declared.edits.TiedFault.{TiedFault}
 use Rattle.flow_state.specs.declared.flow.Flow.{Flow}
 use Rattle.flow_state.specs.declared.step.FlowStep.{FlowStep}
 use Rattle.flow_state.specs.declared.step.FlowStep.TheVariants as Steps

@@ -3,9 +3,9 @@ use Rattle.std.proofs.Common.{◌≡◌, ℕ, [], None}
 use Rattle.config_types.specs.declared.edit.Edit.{Edit}
 use Rattle.config_check.specs.Checked.{Checked}
 use Rattle.config_check.specs.Edits.{edited}
-use Rattle.run_ties.specs.Kept.{AreAlike, Kept, ties_in}
-use Rattle.run_ties.specs.Tying.{joined, ties_of}
-use Rattle.run_ties.proofs.Alike.{alike_is_one}
+use Rattle.schedule_script.specs.Kept.{AreAlike, Kept, ties_in}
+use Rattle.schedule_script.specs.Tying.{joined, ties_of}
+use Rattle.schedule_script.proofs.Alike.{alike_is_one}
 use Rattle.flow_state.specs.Playing.{Playing, opening, played_edit, playing}
 
 pub starts : (capacity : ℕ) (v : Checked) (kept : Kept) → AreAlike (ties_in kept) (ties_of v)

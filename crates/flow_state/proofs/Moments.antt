@@ -16,8 +16,8 @@ use Rattle.config_check.specs.declared.edits.EditFault.{EditFault}
 use Rattle.config_check.specs.declared.edits.EditFault.TheVariants.{Missing, Rule}
 use Rattle.config_check.specs.declared.refusal.Refusal.{Refusal}
 use Rattle.config_check.proofs.Edited.{form_is_kept}
-use Rattle.run_ties.specs.declared.edits.TiedFault.{TiedFault}
-use Rattle.run_ties.specs.declared.edits.TiedFault.TheVariants.{Edit as Faulty}
+use Rattle.schedule_script.specs.declared.edits.TiedFault.{TiedFault}
+use Rattle.schedule_script.specs.declared.edits.TiedFault.TheVariants.{Edit as Faulty}
 use Rattle.reach_plain.specs.Reachability.{reachability}
 use Rattle.flow_state.specs.Steps.{has_step_form}
 use Rattle.flow_state.specs.declared.step.FlowStep.{FlowStep}

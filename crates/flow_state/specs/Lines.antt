@@ -1,9 +1,9 @@
 -- What `flows` writes.
 use Rattle.std.specs.Prelude.{ℕ, ◌+◌, List, [], ◌∷◌, ◌++◌, codes, decimal}
 use Rattle.config_check.specs.Checked.{Checked}
-use Rattle.run_ties.specs.Texts.{tie_text}
-use Rattle.run_ties.specs.declared.edits.TiedFault.{TiedFault}
-use Rattle.run_ties.specs.declared.edits.TiedFault.TheVariants.{Edit, Tied}
+use Rattle.schedule_script.specs.Texts.{tie_text}
+use Rattle.schedule_script.specs.declared.edits.TiedFault.{TiedFault}
+use Rattle.schedule_script.specs.declared.edits.TiedFault.TheVariants.{Edit, Tied}
 use Rattle.flow_state.specs.declared.step.FlowStep.{FlowStep}
 use Rattle.flow_state.specs.declared.answer.FlowAnswer.{FlowAnswer}
 use Rattle.flow_state.specs.declared.answer.FlowAnswer.TheVariants.{Edited, Refused, Traced}

@@ -3,10 +3,10 @@ use Rattle.std.specs.Prelude.{ℕ, List, [], ◌∷◌, Option, Some, None}
 use Rattle.config_types.specs.declared.edit.Edit.{Edit}
 use Rattle.config_check.specs.Checked.{Checked}
 use Rattle.config_check.specs.Edits.{edited}
-use Rattle.run_ties.specs.Ties.{Ties}
-use Rattle.run_ties.specs.Tied.{tied_fault}
-use Rattle.run_ties.specs.Tying.{joined, ties_of}
-use Rattle.run_ties.specs.declared.edits.TiedFault.{TiedFault}
+use Rattle.schedule_script.specs.Ties.{Ties}
+use Rattle.schedule_script.specs.Tied.{tied_fault}
+use Rattle.schedule_script.specs.Tying.{joined, ties_of}
+use Rattle.schedule_script.specs.declared.edits.TiedFault.{TiedFault}
 use Rattle.flow_state.specs.declared.step.FlowStep.{FlowStep}
 use Rattle.flow_state.specs.declared.step.FlowStep.TheVariants as Steps
 use Rattle.flow_state.specs.declared.flow.Flow.{Flow}

@@ -1,6 +1,6 @@
 //! What steps answer.
 use ov_types::Outcome;
-use run_ties::TiedFault;
+use schedule_script::TiedFault;
 
 /// The answer to a step.
 #[derive(Drop)]

@@ -7,7 +7,7 @@ use config_check::EditFault;
 use ov_io::TextOut;
 use ov_types::NoMemory;
 use report::{LinesOf, OutcomeLines, did_lines};
-use run_ties::TiedFault;
+use schedule_script::TiedFault;
 use std::alloc::Global;
 use std::fmt;
 

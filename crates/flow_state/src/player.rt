@@ -12,7 +12,7 @@ use crate::table::FlowTable;
 use config_check::Valid;
 use config_types::Edit;
 use ov_types::NoMemory;
-use run_ties::{TiedRefusal, Ties, apply_tied_edit};
+use schedule_script::{TiedRefusal, Ties, apply_tied_edit};
 use std::alloc::Global;
 use std::marker::Model;
 

@@ -5,7 +5,7 @@ use Rattle.serde_json.specs.Data.{Data, string}
 use Rattle.ov_types.specs.declared.numbers.PortNo.{PortNo}
 use Rattle.config_types.specs.Form.{has_config_form}
 use Rattle.config_types.specs.declared.config.Config.{Config}
-use Rattle.run_ties.specs.declared.edits.TiedFault.{TiedFault}
+use Rattle.schedule_script.specs.declared.edits.TiedFault.{TiedFault}
 use Rattle.hitless_cells.specs.declared.course.Course.{Course}
 use Rattle.hitless_cells.specs.declared.course.Course.TheVariants.{Inside, Passing, Through}
 use Rattle.hitless_cells.specs.declared.lines.Difference.{Difference}

@@ -2,7 +2,7 @@
 use Rattle.std.proofs.Common.{◌≡◌, false, ℕ, refl}
 use Rattle.serde_json.specs.Written.{has_float}
 use Rattle.config_types.specs.declared.config.Config.{Config}
-use Rattle.run_ties.specs.declared.edits.TiedFault.{TiedFault}
+use Rattle.schedule_script.specs.declared.edits.TiedFault.{TiedFault}
 use Rattle.hitless_cells.specs.declared.course.Course.{Course}
 use Rattle.hitless_cells.specs.declared.course.Course.TheVariants.{Inside, Passing, Through}
 use Rattle.hitless_cells.specs.declared.lines.Difference.{Difference}

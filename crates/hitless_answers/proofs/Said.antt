@@ -7,7 +7,7 @@ use Rattle.config_types.specs.Form.{has_edit_form}
 use Rattle.config_types.specs.declared.edit.Edit.{Edit}
 use Rattle.config_check.specs.Checked.{Checked}
 use Rattle.config_check.specs.Edits.{edited}
-use Rattle.run_ties.specs.declared.edits.TiedFault.{TiedFault}
+use Rattle.schedule_script.specs.declared.edits.TiedFault.{TiedFault}
 use Rattle.hitless_laws.specs.Keeping.{IsValidAsWritten}
 use Rattle.hitless_laws.proofs.ByKind.{accepted}
 use Rattle.hitless_cells.specs.Interrupted.{IsInterrupted}

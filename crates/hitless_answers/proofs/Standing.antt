@@ -4,13 +4,13 @@ use Rattle.ov_types.proofs.FirstLemmas.{both_none, mapped_none}
 use Rattle.config_types.specs.declared.edit.Edit.{Edit}
 use Rattle.config_check.specs.Checked.{Checked}
 use Rattle.config_check.specs.Edits.{edit_fault, edited}
-use Rattle.run_ties.specs.Kept.{AreAlike, Kept, ties_in}
-use Rattle.run_ties.specs.Ties.{Ties}
-use Rattle.run_ties.specs.Tied.{tie_fault, tied_fault}
-use Rattle.run_ties.specs.declared.edits.TiedFault.{TiedFault}
-use Rattle.run_ties.specs.declared.edits.TiedFault.TheVariants as Fault
-use Rattle.run_ties.specs.Tying.{joined, ties_of}
-use Rattle.run_ties.proofs.Alike.{alike_is_one}
+use Rattle.schedule_script.specs.Kept.{AreAlike, Kept, ties_in}
+use Rattle.schedule_script.specs.Ties.{Ties}
+use Rattle.schedule_script.specs.Tied.{tie_fault, tied_fault}
+use Rattle.schedule_script.specs.declared.edits.TiedFault.{TiedFault}
+use Rattle.schedule_script.specs.declared.edits.TiedFault.TheVariants as Fault
+use Rattle.schedule_script.specs.Tying.{joined, ties_of}
+use Rattle.schedule_script.proofs.Alike.{alike_is_one}
 use Rattle.hitless_cells.specs.Lines.{interruptions}
 use Rattle.hitless_cells.specs.declared.lines.Interruption.{Interruption}
 use Rattle.hitless_answers.specs.Judging.{Standing, fault_in, judged, judged_by, standing, standing_by, standing_first}

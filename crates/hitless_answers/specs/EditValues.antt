@@ -2,7 +2,7 @@
 use Rattle.std.specs.Prelude.{ℕ, ◌&&◌, nat_le, Bool, true, List, codes}
 use Rattle.serde_json.specs.Data.{Data, member, no_members, null, object, string}
 use Rattle.config_types.specs.declared.config.Config.{Config}
-use Rattle.run_ties.specs.declared.edits.TiedFault.{TiedFault}
+use Rattle.schedule_script.specs.declared.edits.TiedFault.{TiedFault}
 use Rattle.hitless_cells.specs.declared.course.Course.{Course}
 use Rattle.hitless_cells.specs.declared.course.Course.TheVariants.{Inside, Passing, Through}
 use Rattle.hitless_cells.specs.declared.lines.Difference.{Difference}

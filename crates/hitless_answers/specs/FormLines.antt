@@ -3,7 +3,7 @@ use Rattle.std.specs.Prelude.{ℕ, ◌+◌, List, [], ◌∷◌, ◌++◌, flat_
 use Rattle.config_types.specs.declared.config.Config.{Config}
 use Rattle.config_types.specs.declared.edit.Edit.{Edit}
 use Rattle.config_check.specs.Checked.{Checked}
-use Rattle.run_ties.specs.declared.edits.TiedFault.{TiedFault}
+use Rattle.schedule_script.specs.declared.edits.TiedFault.{TiedFault}
 use Rattle.hitless_cells.specs.declared.lines.Interruption.{Interruption}
 use Rattle.inspect_json.specs.Form.{json_line}
 use Rattle.inspect_json.specs.declared.form.Form.{Form}

@@ -3,9 +3,9 @@ use Rattle.std.specs.Prelude.{ℕ, ◌+◌, List, [], ◌∷◌, ◌++◌, codes
 use Rattle.ov_types.specs.declared.packet.Tuple.{Tuple}
 use Rattle.config_types.specs.declared.edit.Edit.{Edit}
 use Rattle.config_check.specs.Checked.{Checked}
-use Rattle.run_ties.specs.Texts.{tie_text}
-use Rattle.run_ties.specs.declared.edits.TiedFault.{TiedFault}
-use Rattle.run_ties.specs.declared.edits.TiedFault.TheVariants as Fault
+use Rattle.schedule_script.specs.Texts.{tie_text}
+use Rattle.schedule_script.specs.declared.edits.TiedFault.{TiedFault}
+use Rattle.schedule_script.specs.declared.edits.TiedFault.TheVariants as Fault
 use Rattle.report.specs.Refusals.{edit_fault_text}
 use Rattle.hitless_cells.specs.declared.course.Course.{Course}
 use Rattle.hitless_cells.specs.declared.course.Course.TheVariants.{Inside, Passing, Through}

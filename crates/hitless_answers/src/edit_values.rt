@@ -8,7 +8,7 @@ use crate::lines::TiedFaultText;
 use config_types::Config;
 use hitless_cells::{Course, Difference, Interruption};
 use inspect_json::port_number_value;
-use run_ties::TiedFault;
+use schedule_script::TiedFault;
 use serde_json::{Value, json};
 use std::alloc::{AllocError, Global};
 

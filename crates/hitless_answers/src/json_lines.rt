@@ -9,7 +9,7 @@ use inspect_json::append_line;
 use ov_io::TextOut;
 use ov_types::NoMemory;
 use report::LinesOf;
-use run_ties::TiedFault;
+use schedule_script::TiedFault;
 use std::alloc::Global;
 
 /// The lines of JSON of packets that the edit of this number interrupts, by the configuration after it.

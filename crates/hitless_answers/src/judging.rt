@@ -11,7 +11,7 @@ use config_check::Valid;
 use config_types::{Config, Edit};
 use hitless_cells::{Interruption, interruptions};
 use ov_types::{Items, NoMemory};
-use run_ties::{TiedFault, TiedRefusal, Ties, apply_tied_edit};
+use schedule_script::{TiedFault, TiedRefusal, Ties, apply_tied_edit};
 use std::alloc::Global;
 use std::marker::Model;
 

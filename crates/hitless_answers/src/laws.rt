@@ -3,7 +3,7 @@ ghost use Rattle.std.specs.Prelude.{◌≡◌, ◌<◌, ◌^◌, ℕ, IsTrue};
 ghost use Rattle.std.specs.Str.{IsUtf8};
 ghost use Rattle.config_types.specs.Form.{has_config_form};
 ghost use Rattle.config_types.specs.declared.config.Config.{Config};
-ghost use Rattle.run_ties.specs.declared.edits.TiedFault.{TiedFault};
+ghost use Rattle.schedule_script.specs.declared.edits.TiedFault.{TiedFault};
 ghost use Rattle.hitless_cells.specs.declared.lines.Interruption.{Interruption};
 ghost use Rattle.inspect_json.specs.Form.{IsReadBack};
 ghost use Rattle.hitless_answers.specs.EditValues.{count_value, has_packet_size, packet_value, refused_value};

@@ -8,7 +8,7 @@ use hitless_cells::{Course, Difference, Interruption};
 use ov_io::TextOut;
 use ov_types::{NoMemory, Tuple};
 use report::LinesOf;
-use run_ties::TiedFault;
+use schedule_script::TiedFault;
 use std::alloc::Global;
 use std::fmt;
 

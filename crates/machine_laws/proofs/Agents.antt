@@ -38,7 +38,7 @@ use Rattle.node_laws.specs.NodeModel.Maps.{Map}
 use Rattle.node_laws.specs.NodeModel.Uses.{is_hop, use_of}
 use Rattle.node_laws.proofs.NodeModel.Heard.{route_is}
 use Rattle.node_laws.proofs.NodeModel.Members.{from_filter_map, from_map, none_some}
-use Rattle.run_ties.specs.Ties.{Ties}
+use Rattle.schedule_script.specs.Ties.{Ties}
 use Rattle.machine_laws.specs.Tied.{AreTied, IsInUse, IsRowLabel, IsTied, IsTiedObject}
 use Rattle.machine_laws.proofs.Labels.{label_of, object_tied}
 

@@ -13,7 +13,7 @@ use Rattle.ov_types.specs.declared.rows.NodeId.{NodeId}
 use Rattle.ov_types.specs.declared.objects.LowValue.{LowValue}
 use Rattle.route_targets.specs.Numbers.{target_of}
 use Rattle.config_types.specs.declared.topology.Node.{Node}
-use Rattle.run_ties.specs.ConfigCheck.Finding.{node_named}
+use Rattle.schedule_script.specs.ConfigCheck.Finding.{node_named}
 use Rattle.node_laws.specs.NodeModel.Agent as agent
 use Rattle.node_laws.specs.NodeModel.Agent.{slice_in_use, told_of}
 use Rattle.node_laws.specs.NodeModel.Keys.{Key, Low, Publish, Row, Subscribe, Vpn}

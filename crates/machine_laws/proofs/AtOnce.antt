@@ -6,9 +6,9 @@ use Rattle.std.proofs.Common.{ap, inl, inr, refl, subst, sym, ◌∙◌}
 use Rattle.config_types.specs.Form.{has_config_form, has_topology_form}
 use Rattle.config_types.specs.declared.config.Config.{Config}
 use Rattle.config_types.specs.declared.edit.Edit.{Edit}
-use Rattle.run_ties.specs.ConfigCheck.Checked.{Checked}
-use Rattle.run_ties.specs.ConfigCheck.Edits as edits
-use Rattle.run_ties.specs.ConfigCheck.Edits.{edit_fault}
+use Rattle.schedule_script.specs.ConfigCheck.Checked.{Checked}
+use Rattle.schedule_script.specs.ConfigCheck.Edits as edits
+use Rattle.schedule_script.specs.ConfigCheck.Edits.{edit_fault}
 use Rattle.std.specs.Prelude.{◌⊎◌}
 use Rattle.ov_types.specs.declared.packet.Packet.{Packet}
 use Rattle.transform_forwarding_laws.specs.ReachPlain.Reachability.{reachability}
@@ -17,9 +17,9 @@ use Rattle.ov_types.specs.declared.numbers.InstanceId.{InstanceId}
 use Rattle.std.proofs.Common.{arith}
 use Rattle.std.proofs.lemmas.Option.{same_Some}
 use Rattle.route_targets.specs.Forwarding.{Forwarder, forwarding}
-use Rattle.run_ties.specs.ConfigCheck.Sentences.{IsValid}
-use Rattle.run_ties.specs.ConfigCheck.EditFault.{EditFault}
-use Rattle.run_ties.proofs.ConfigCheck.Validity.{valid_iff}
+use Rattle.schedule_script.specs.ConfigCheck.Sentences.{IsValid}
+use Rattle.schedule_script.specs.ConfigCheck.EditFault.{EditFault}
+use Rattle.schedule_script.proofs.ConfigCheck.Validity.{valid_iff}
 use Rattle.node_laws.specs.NodeModel.Members.{Member}
 use Rattle.machine_model.specs.Events.{Edits, MachineEvent, Settle, after, forwarders, next}
 use Rattle.machine_model.specs.Moments.{ArePositive, EditsAreValid}

@@ -7,12 +7,12 @@ use Rattle.std.proofs.lemmas.Bool.{or_cases, true≢false}
 use Rattle.ov_types.specs.First.{◌<|>◌}
 use Rattle.config_types.specs.declared.config.Config.{Config}
 use Rattle.config_types.specs.declared.edit.Edit.{Edit}
-use Rattle.run_ties.specs.ConfigCheck.Checked.{Checked}
-use Rattle.run_ties.specs.ConfigCheck.Sentences.{IsValid}
-use Rattle.run_ties.proofs.ConfigCheck.Validity.{valid_iff}
-use Rattle.run_ties.specs.Ties.{AreNear, HasPort, HasRelated, HasUse, Ties}
-use Rattle.run_ties.specs.Tying.{joined, no_ties, port_network, relates, ties_of, use_networks}
-use Rattle.run_ties.proofs.Having.{port_iff, relates_iff, use_iff}
+use Rattle.schedule_script.specs.ConfigCheck.Checked.{Checked}
+use Rattle.schedule_script.specs.ConfigCheck.Sentences.{IsValid}
+use Rattle.schedule_script.proofs.ConfigCheck.Validity.{valid_iff}
+use Rattle.schedule_script.specs.Ties.{AreNear, HasPort, HasRelated, HasUse, Ties}
+use Rattle.schedule_script.specs.Tying.{joined, no_ties, port_network, relates, ties_of, use_networks}
+use Rattle.schedule_script.proofs.Having.{port_iff, relates_iff, use_iff}
 use Rattle.std.proofs.lemmas.Option.{same_Some}
 use Rattle.ov_types.specs.declared.numbers.InstanceId.{InstanceId}
 use Rattle.node_laws.specs.NodeModel.Members.{Member}

@@ -10,9 +10,9 @@ use Rattle.ov_types.specs.declared.rows.NodeId.{NodeId}
 use Rattle.ov_types.specs.declared.rows.NodeRows.TheVariants as Rows
 use Rattle.ov_types.proofs.FirstLemmas.{same_name_self}
 use Rattle.config_types.specs.declared.topology.Node.{Node}
-use Rattle.run_ties.specs.ConfigCheck.Finding.{node_named}
-use Rattle.run_ties.specs.ConfigCheck.Sentences.{IsValid}
-use Rattle.run_ties.proofs.ConfigCheck.Validity.{valid_iff}
+use Rattle.schedule_script.specs.ConfigCheck.Finding.{node_named}
+use Rattle.schedule_script.specs.ConfigCheck.Sentences.{IsValid}
+use Rattle.schedule_script.proofs.ConfigCheck.Validity.{valid_iff}
 use Rattle.transform_forwarding_laws.specs.TransformModel.Compiled.{agent_rows}
 use Rattle.transform_forwarding_laws.specs.TransformModel.Tables.{control_rows}
 use Rattle.transform_forwarding_laws.proofs.TransformModel.Rows.{node_is}

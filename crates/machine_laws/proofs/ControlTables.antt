@@ -16,7 +16,7 @@ use Rattle.ov_types.specs.declared.objects.LowValue.TheVariants as low
 use Rattle.ov_types.specs.declared.prefix.Addr.{Addr}
 use Rattle.config_types.specs.Form.{has_config_form}
 use Rattle.machine_model.specs.Setup.{Setup}
-use Rattle.run_ties.specs.ConfigCheck.Sentences.{IsValid}
+use Rattle.schedule_script.specs.ConfigCheck.Sentences.{IsValid}
 use Rattle.transform_forwarding_laws.specs.TransformModel.IsRow.{IsRow, at_left_end, at_right_end, to_left_circuit, to_left_subnet, to_port, to_right_circuit, to_right_subnet}
 use Rattle.transform_forwarding_laws.specs.TransformModel.IsUse.{IsInstance, of_hop, of_network}
 use Rattle.transform_forwarding_laws.specs.TransformModel.Tables as tables

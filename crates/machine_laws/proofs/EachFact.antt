@@ -9,8 +9,8 @@ use Rattle.node_laws.specs.NodeModel.Maps.{Map}
 use Rattle.config_types.specs.declared.edit.Edit.{Edit}
 use Rattle.config_types.specs.declared.topology.Node.{Node}
 use Rattle.config_types.specs.declared.topology.Topology.{Topology}
-use Rattle.run_ties.specs.ConfigCheck.Edits.{edit_fault, edited as checked_edited}
-use Rattle.run_ties.specs.ConfigCheck.EditFault.{EditFault}
+use Rattle.schedule_script.specs.ConfigCheck.Edits.{edit_fault, edited as checked_edited}
+use Rattle.schedule_script.specs.ConfigCheck.EditFault.{EditFault}
 use Rattle.ov_types.specs.declared.rows.NodeId.{NodeId}
 use Rattle.node_laws.specs.NodeModel.Members.{Member}
 use Rattle.node_laws.proofs.NodeModel.Members.{from_filter, none_some}

@@ -5,17 +5,17 @@ use Rattle.std.specs.declared.option.Option.{Option}
 use Rattle.std.proofs.Common.{ap, refl, subst, sym, ◌∙◌}
 use Rattle.std.proofs.lemmas.Option.{same_Some}
 use Rattle.config_types.specs.declared.edit.Edit.{Edit}
-use Rattle.run_ties.specs.ConfigCheck.Edits as edits
-use Rattle.run_ties.specs.ConfigCheck.Edits.{edit_fault}
-use Rattle.run_ties.specs.ConfigCheck.Rules.{first_broken}
-use Rattle.run_ties.specs.ConfigCheck.EditFault.{EditFault}
-use Rattle.run_ties.proofs.ConfigCheck.Validity.{valid_iff}
+use Rattle.schedule_script.specs.ConfigCheck.Edits as edits
+use Rattle.schedule_script.specs.ConfigCheck.Edits.{edit_fault}
+use Rattle.schedule_script.specs.ConfigCheck.Rules.{first_broken}
+use Rattle.schedule_script.specs.ConfigCheck.EditFault.{EditFault}
+use Rattle.schedule_script.proofs.ConfigCheck.Validity.{valid_iff}
 use Rattle.node_laws.proofs.NodeModel.Members.{none_some}
 use Rattle.machine_model.specs.Setup.{Setup, checked, edited, edited_without}
 use Rattle.machine_model.proofs.Changing.{renews}
 use Rattle.machine_laws.proofs.Written.{none_broken}
 use Rattle.machine_laws.specs.Headline.{IsOfForm, IsWritten}
-use Rattle.run_ties.specs.ConfigCheck.Sentences.{IsValid}
+use Rattle.schedule_script.specs.ConfigCheck.Sentences.{IsValid}
 
 -- an accepted edit of the written form leads to a valid configuration
 pub written_edit : (y : Setup) (d : Edit) (z : Setup) → edited y d ≡ Some z → IsOfForm z → IsWritten z

@@ -21,8 +21,8 @@ use Rattle.config_types.specs.declared.config.End.TheVariants.{Any, Named}
 use Rattle.config_types.specs.declared.config.End.{End}
 use Rattle.config_types.specs.declared.config.Network.{Network}
 use Rattle.machine_model.specs.Setup.{Setup}
-use Rattle.run_ties.specs.ConfigCheck.Sentences.{IsValid, NamesEnds}
-use Rattle.run_ties.proofs.ConfigCheck.Validity.{valid_iff}
+use Rattle.schedule_script.specs.ConfigCheck.Sentences.{IsValid, NamesEnds}
+use Rattle.schedule_script.proofs.ConfigCheck.Validity.{valid_iff}
 use Rattle.policy_rules.specs.Matching.{speaks_both_ways}
 use Rattle.policy_rules.specs.Related.{all_rules, fits, rules_between}
 use Rattle.policy_rules.specs.Standing.{Fits, IsBetween, IsEnd}
@@ -35,7 +35,7 @@ use Rattle.node_laws.proofs.NodeModel.Members.{from_flat_map, in_either, member_
 use Rattle.node_laws.proofs.NodeModel.Objects.{is_hop-hop, use_of-hop}
 use Rattle.node_laws.proofs.NodeModel.Members.{contains_of}
 use Rattle.config_types.specs.declared.config.Rule.{Rule}
-use Rattle.run_ties.specs.Ties.{HasUse, IsTiedBy, Ties}
+use Rattle.schedule_script.specs.Ties.{HasUse, IsTiedBy, Ties}
 use Rattle.machine_laws.specs.Tied.{StandsBetween}
 
 -- ---- ends of rules

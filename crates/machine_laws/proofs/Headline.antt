@@ -15,7 +15,7 @@ use Rattle.ov_types.specs.declared.rows.Entry.{Entry as RouteEntry}
 use Rattle.ov_types.specs.declared.rows.NodeRows.TheVariants as Rows
 use Rattle.config_types.specs.declared.topology.Node.{Node}
 use Rattle.machine_model.specs.Setup.{Setup}
-use Rattle.run_ties.specs.ConfigCheck.Finding.{node_named}
+use Rattle.schedule_script.specs.ConfigCheck.Finding.{node_named}
 use Rattle.node_laws.specs.NodeModel.Agent as agent
 use Rattle.node_laws.specs.NodeModel.Agent.{as_hop, first_some, slice_in_use}
 use Rattle.node_laws.specs.NodeModel.Keys.{Key, Row}

@@ -13,8 +13,8 @@ use Rattle.config_types.specs.declared.config.Network.{Network}
 use Rattle.config_types.specs.declared.config.Port.{Port}
 use Rattle.config_types.specs.declared.topology.Node.{Node}
 use Rattle.machine_model.specs.Setup.{Setup}
-use Rattle.run_ties.specs.ConfigCheck.Sentences.{IsValid}
-use Rattle.run_ties.proofs.ConfigCheck.OneHome.{two_among}
+use Rattle.schedule_script.specs.ConfigCheck.Sentences.{IsValid}
+use Rattle.schedule_script.proofs.ConfigCheck.OneHome.{two_among}
 use Rattle.transform_forwarding_laws.specs.TransformModel.IsRow.{IsPort, IsRow, at_left_end, at_right_end, to_left_circuit, to_port, to_right_circuit}
 use Rattle.transform_forwarding_laws.specs.TransformModel.Tables.{Row as TableEntry}
 use Rattle.transform_forwarding_laws.specs.TransformModel.Tables.{circuit_route, host_route, instance_table}

@@ -20,7 +20,7 @@ use Rattle.route_targets.specs.Numbers.{hop_instance_of}
 use Rattle.config_types.specs.Form.{has_config_form}
 use Rattle.config_types.specs.declared.config.Network.{Network}
 use Rattle.machine_model.specs.Setup.{Setup}
-use Rattle.run_ties.specs.ConfigCheck.Sentences.{IsValid}
+use Rattle.schedule_script.specs.ConfigCheck.Sentences.{IsValid}
 use Rattle.transform_forwarding_laws.specs.TransformModel.IsObject.{AreImports, IsObject, of_left_circuit, of_network, of_networks, of_port, of_right_circuit, of_use}
 use Rattle.transform_forwarding_laws.specs.TransformModel.IsUse.{IsUse}
 use Rattle.transform_forwarding_laws.specs.TransformModel.Objects.{LowObject}

@@ -23,7 +23,7 @@ use Rattle.node_laws.proofs.NodeModel.Members.{none_some}
 use Rattle.node_laws.proofs.NodeModel.Objects.{object_of}
 use Rattle.machine_laws.specs.Compiled.{circuit_prefix}
 use Rattle.node_laws.proofs.NodeModel.Routes.{label_is, led_by}
-use Rattle.run_ties.specs.Ties.{Ties}
+use Rattle.schedule_script.specs.Ties.{Ties}
 use Rattle.machine_laws.specs.Tied.{AreTied, IsOwnLabel, IsPortLabel, IsRowLabel, IsTiedObject}
 
 pub place_back : (i : InstanceId) → is_hop i ≡ true → hop_instance_of (use_of i) (place_of i) ≡ i

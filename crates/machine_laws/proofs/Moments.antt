@@ -5,8 +5,8 @@ use Rattle.std.proofs.Common.{refl, subst, ◌∙◌}
 use Rattle.route_targets.specs.Forwarding.{Forwarder}
 use Rattle.config_types.specs.declared.edit.Edit.{Edit}
 use Rattle.config_types.specs.declared.topology.Node.{Node}
-use Rattle.run_ties.specs.ConfigCheck.Checked.{Checked}
-use Rattle.run_ties.proofs.ConfigCheck.Validity.{valid_iff}
+use Rattle.schedule_script.specs.ConfigCheck.Checked.{Checked}
+use Rattle.schedule_script.proofs.ConfigCheck.Validity.{valid_iff}
 use Rattle.node_laws.specs.NodeModel.Agent as agent
 use Rattle.node_laws.specs.NodeModel.Maps.{Map}
 use Rattle.node_laws.specs.NodeModel.Members.{Member}
@@ -20,7 +20,7 @@ use Rattle.machine_model.specs.Setup.{Name, Setup, edited, opening}
 use Rattle.machine_laws.specs.Settling.{WantsFair}
 use Rattle.machine_laws.proofs.RanksSettle.{kept, stay_valid}
 use Rattle.machine_laws.specs.Headline.{IsWritten}
-use Rattle.run_ties.specs.Ties.{IsTiedBy, Ties}
+use Rattle.schedule_script.specs.Ties.{IsTiedBy, Ties}
 use Rattle.machine_laws.specs.Tied.{AreTied, tied}
 use Rattle.machine_laws.specs.TiedMoments.{AtTiedMoments, IsTiedState, KeepsTies}
 use Rattle.machine_laws.proofs.Edited.{same_asn, written_edit}

@@ -28,11 +28,11 @@ use Rattle.config_types.specs.declared.config.Port.{Port}
 use Rattle.config_types.specs.declared.config.Service.{Service}
 use Rattle.config_types.specs.declared.topology.Node.{Node}
 use Rattle.machine_model.specs.Setup.{Setup}
-use Rattle.run_ties.specs.ConfigCheck.Rules.{circuit_addresses}
-use Rattle.run_ties.specs.ConfigCheck.Sentences.{AreApart, IsAround, IsValid, Overlap}
-use Rattle.run_ties.proofs.ConfigCheck.Circuits.{circuits_iff}
-use Rattle.run_ties.proofs.ConfigCheck.Nested.{overlap_at}
-use Rattle.run_ties.proofs.ConfigCheck.OneHome.{HasBlocks, blocks_of, one_home}
+use Rattle.schedule_script.specs.ConfigCheck.Rules.{circuit_addresses}
+use Rattle.schedule_script.specs.ConfigCheck.Sentences.{AreApart, IsAround, IsValid, Overlap}
+use Rattle.schedule_script.proofs.ConfigCheck.Circuits.{circuits_iff}
+use Rattle.schedule_script.proofs.ConfigCheck.Nested.{overlap_at}
+use Rattle.schedule_script.proofs.ConfigCheck.OneHome.{HasBlocks, blocks_of, one_home}
 use Rattle.transform_forwarding_laws.specs.TransformModel.IsObject.{IsHop, IsObject, of_left_circuit, of_network, of_networks, of_port, of_right_circuit, of_use}
 use Rattle.transform_forwarding_laws.specs.TransformModel.IsRow.{IsCircuitAt as IsCircuitAtNode}
 use Rattle.transform_forwarding_laws.specs.TransformModel.IsRow.{IsPort}

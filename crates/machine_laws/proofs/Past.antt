@@ -6,25 +6,25 @@ use Rattle.std.proofs.lemmas.Bool.{true≢false}
 use Rattle.ov_types.specs.declared.packet.Outcome.TheVariants.{Delivered}
 use Rattle.config_types.specs.Form.{has_config_form, has_controller_form, has_policy_form, has_rule_form, has_network_form, has_node_form, has_port_form, has_topology_form}
 use Rattle.config_types.specs.declared.config.Config.{Config}
-use Rattle.run_ties.specs.ConfigCheck.Edits as edits
-use Rattle.run_ties.specs.ConfigCheck.Edits.{edit_fault, missing_name}
-use Rattle.run_ties.specs.ConfigCheck.Rules.{broken_id, broken_limit, broken_long, broken_loop, broken_name, broken_needs, broken_nested, broken_outside, broken_overlap, broken_reference, broken_reserved, broken_same, broken_taken, broken_twice, first_broken}
+use Rattle.schedule_script.specs.ConfigCheck.Edits as edits
+use Rattle.schedule_script.specs.ConfigCheck.Edits.{edit_fault, missing_name}
+use Rattle.schedule_script.specs.ConfigCheck.Rules.{broken_id, broken_limit, broken_long, broken_loop, broken_name, broken_needs, broken_nested, broken_outside, broken_overlap, broken_reference, broken_reserved, broken_same, broken_taken, broken_twice, first_broken}
 use Rattle.policy_rules.specs.Matching.{deciding}
 use Rattle.transform_forwarding_laws.specs.ReachPlain.Reachability.{reachability}
-use Rattle.run_ties.specs.Ties.{HasPort, HasRelated}
-use Rattle.run_ties.specs.Tying.{port_network, relates}
+use Rattle.schedule_script.specs.Ties.{HasPort, HasRelated}
+use Rattle.schedule_script.specs.Tying.{port_network, relates}
 use Rattle.machine_laws.specs.Headline.{IsWritten}
-use Rattle.run_ties.specs.ConfigCheck.Sentences.{IsValid}
-use Rattle.run_ties.proofs.Having.{port_iff, relates_iff}
+use Rattle.schedule_script.specs.ConfigCheck.Sentences.{IsValid}
+use Rattle.schedule_script.proofs.Having.{port_iff, relates_iff}
 use Rattle.machine_model.specs.Events.{Edits, MachineEvent, Settle, after}
 use Rattle.machine_model.specs.Network.{start}
 use Rattle.machine_model.specs.Setup.{opening as setup_of}
 use Rattle.machine_laws.specs.Untied.{packet}
 use Rattle.machine_laws.specs.Past.{StaysAmongPresent, leave, related, with_first_attaching}
 use Rattle.machine_laws.specs.Running.{AtMomentsOfRuns, EditsKeep}
-use Rattle.run_ties.specs.Ties.{BreaksNone}
-use Rattle.run_ties.specs.Tying.{ties_of}
-use Rattle.run_ties.proofs.Broken.{broken_iff}
+use Rattle.schedule_script.specs.Ties.{BreaksNone}
+use Rattle.schedule_script.specs.Tying.{ties_of}
+use Rattle.schedule_script.proofs.Broken.{broken_iff}
 use Rattle.machine_laws.proofs.AtOnce.{edit_leads, leads_to_form, never_one, now_config, positive, size, still_goes, valid_after}
 
 abbrev parted : Config

@@ -6,7 +6,7 @@ use Rattle.machine_model.proofs.OvSync.KeyedLaws.{empty_values}
 use Rattle.node_laws.specs.NodeModel.Keys.{Key, key_cmp}
 use Rattle.node_laws.specs.NodeModel.Values.{Value}
 use Rattle.node_laws.specs.NodeModel.Maps.{Map}
-use Rattle.run_ties.specs.ConfigCheck.Checked.{Checked}
+use Rattle.schedule_script.specs.ConfigCheck.Checked.{Checked}
 use Rattle.machine_model.specs.Setup.{Setup}
 use Rattle.config_types.specs.declared.edit.Edit.{Edit}
 use Rattle.machine_model.specs.Setup.{Name, edited, opening}

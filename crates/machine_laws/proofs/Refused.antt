@@ -11,10 +11,10 @@ use Rattle.machine_model.specs.Session.{Message}
 use Rattle.machine_model.specs.Setup.{Name, checked}
 use Rattle.machine_model.specs.Moments.{EditIsValid, EditsAreValid}
 use Rattle.machine_laws.specs.Headline.{IsOfForm}
-use Rattle.run_ties.specs.declared.breaking.Tie.{Tie}
-use Rattle.run_ties.specs.Broken.{broken_tie}
-use Rattle.run_ties.specs.Ties.{Ties}
-use Rattle.run_ties.proofs.Broken.{broken_iff}
+use Rattle.schedule_script.specs.declared.breaking.Tie.{Tie}
+use Rattle.schedule_script.specs.Broken.{broken_tie}
+use Rattle.schedule_script.specs.Ties.{Ties}
+use Rattle.schedule_script.proofs.Broken.{broken_iff}
 use Rattle.machine_laws.specs.Running.{AtMomentsOfRuns, EditKeeps, EditsKeep, IsIsolated, configs, ties_after, ties_next}
 use Rattle.machine_laws.specs.Stood.{DeliversToThoseJoined, IsStayingAmong}
 use Rattle.machine_laws.specs.Refusing.{AtMomentsWithTies, GoesOn, KeepsWhatIsNotRefused, TiedNetwork, after_tied, breaks, kept_events, next_tied, refuses, tied_start}

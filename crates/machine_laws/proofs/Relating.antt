@@ -22,15 +22,15 @@ use Rattle.policy_rules.specs.Related.{all_rules}
 use Rattle.policy_rules.specs.Standing.{IsBetween, LetsThrough}
 use Rattle.policy_rules.specs.declared.numbered.NumberedRule.{NumberedRule}
 use Rattle.policy_rules.proofs.Taking.{first_answer}
-use Rattle.run_ties.specs.ConfigCheck.Checked.{Checked}
-use Rattle.run_ties.specs.ConfigCheck.Finding.{network_named}
-use Rattle.run_ties.specs.ConfigCheck.Sentences.{IsValid}
-use Rattle.run_ties.specs.declared.breaking.Tie.{Tie}
-use Rattle.run_ties.specs.declared.breaking.Tie.TheVariants as Tied
-use Rattle.run_ties.specs.Broken.{broken_node, broken_port, broken_tie, broken_use, moved, moved_address, moved_pair, renamed}
-use Rattle.run_ties.specs.Ties.{HasPort, HasRelated, HasUse, Ties}
-use Rattle.run_ties.specs.Tying.{end_id, ends_of, home_id, network_id, pair_of}
-use Rattle.run_ties.proofs.Having.{ends_are, home_is}
+use Rattle.schedule_script.specs.ConfigCheck.Checked.{Checked}
+use Rattle.schedule_script.specs.ConfigCheck.Finding.{network_named}
+use Rattle.schedule_script.specs.ConfigCheck.Sentences.{IsValid}
+use Rattle.schedule_script.specs.declared.breaking.Tie.{Tie}
+use Rattle.schedule_script.specs.declared.breaking.Tie.TheVariants as Tied
+use Rattle.schedule_script.specs.Broken.{broken_node, broken_port, broken_tie, broken_use, moved, moved_address, moved_pair, renamed}
+use Rattle.schedule_script.specs.Ties.{HasPort, HasRelated, HasUse, Ties}
+use Rattle.schedule_script.specs.Tying.{end_id, ends_of, home_id, network_id, pair_of}
+use Rattle.schedule_script.proofs.Having.{ends_are, home_is}
 use Rattle.machine_model.specs.Network.{MachineState}
 use Rattle.machine_model.specs.Network.{start}
 use Rattle.machine_laws.specs.Refusing.{AtMomentsWithTies, after_tied, kept_events, tied_start}

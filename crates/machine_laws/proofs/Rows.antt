@@ -10,7 +10,7 @@ use Rattle.route_targets.specs.Numbers.{circuit_instance_of, circuit_label_of, d
 use Rattle.config_types.specs.Form.{has_config_form}
 use Rattle.config_types.specs.declared.config.Network.{Network}
 use Rattle.machine_model.specs.Setup.{Setup}
-use Rattle.run_ties.specs.ConfigCheck.Sentences.{IsValid}
+use Rattle.schedule_script.specs.ConfigCheck.Sentences.{IsValid}
 use Rattle.transform_forwarding_laws.specs.TransformModel.IsRow.{HoldsPort, IsRow, to_left_subnet, to_right_subnet}
 use Rattle.transform_forwarding_laws.specs.TransformModel.IsUse.{IsLeftCircuit, IsRightCircuit, IsUse}
 use Rattle.transform_forwarding_laws.specs.TransformModel.Uses.{ConfiguredUse as InEffect}

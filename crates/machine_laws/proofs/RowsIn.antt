@@ -11,7 +11,7 @@ use Rattle.route_targets.specs.Numbers.{circuit_instance_of, circuit_label_of, d
 use Rattle.config_types.specs.Form.{has_config_form}
 use Rattle.config_types.specs.declared.config.Network.{Network}
 use Rattle.machine_model.specs.Setup.{Setup}
-use Rattle.run_ties.specs.ConfigCheck.Sentences.{IsValid}
+use Rattle.schedule_script.specs.ConfigCheck.Sentences.{IsValid}
 use Rattle.transform_forwarding_laws.specs.TransformModel.IsRow.{HoldsPort, IsPort, IsRow, at_left_end, at_right_end, to_left_circuit, to_left_subnet, to_port, to_right_circuit, to_right_subnet}
 use Rattle.transform_forwarding_laws.specs.TransformModel.Tables.{Row as TableEntry}
 use Rattle.transform_forwarding_laws.proofs.TransformModel.Circuits.{left_instance, right_instance}

@@ -5,11 +5,11 @@ use Rattle.std.specs.declared.option.Option.{Option}
 use Rattle.std.proofs.Common.{ap, inl, inr, refl, subst, ◌∙◌}
 use Rattle.config_types.specs.declared.config.Config.{Config}
 use Rattle.config_types.specs.declared.edit.Edit.{Edit}
-use Rattle.run_ties.specs.ConfigCheck.Checked.{Checked}
-use Rattle.run_ties.proofs.ConfigCheck.Validity.{valid_iff}
-use Rattle.run_ties.specs.Ties.{BreaksNone, Grows, IsTiedBy, Ties}
-use Rattle.run_ties.specs.Tying.{joined, no_ties, ties_of}
-use Rattle.run_ties.proofs.Growing.{breaks_nothing, grows_itself, grows_on, joined_grows, joined_tied, tied_grows}
+use Rattle.schedule_script.specs.ConfigCheck.Checked.{Checked}
+use Rattle.schedule_script.proofs.ConfigCheck.Validity.{valid_iff}
+use Rattle.schedule_script.specs.Ties.{BreaksNone, Grows, IsTiedBy, Ties}
+use Rattle.schedule_script.specs.Tying.{joined, no_ties, ties_of}
+use Rattle.schedule_script.proofs.Growing.{breaks_nothing, grows_itself, grows_on, joined_grows, joined_tied, tied_grows}
 use Rattle.node_laws.specs.NodeModel.Members.{Member}
 use Rattle.machine_model.specs.Events.{Break, Connect, Deliver, DeliverOctets, Edits, MachineEvent, Lose, Restart, Round, Settle, Show, Trace, next}
 use Rattle.machine_model.specs.Moments.{Each, EditIsValid, EditsAreValid}

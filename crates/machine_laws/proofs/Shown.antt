@@ -21,7 +21,7 @@ use Rattle.ov_types.specs.declared.rows.TableRow.{TableRow}
 use Rattle.ov_types.proofs.FirstLemmas.{pairs_head, pairs_tail}
 use Rattle.config_types.specs.Form.{has_config_form}
 use Rattle.machine_model.specs.Setup.{Setup}
-use Rattle.run_ties.specs.ConfigCheck.Sentences.{IsValid}
+use Rattle.schedule_script.specs.ConfigCheck.Sentences.{IsValid}
 use Rattle.transform_forwarding_laws.specs.TransformModel.Compiled as compiled_rows
 use Rattle.transform_forwarding_laws.specs.TransformModel.Compiled.{concerns, route_of, slice_of}
 use Rattle.transform_forwarding_laws.specs.TransformModel.IsNeeded.{IsNeeded as IsNeededThere}

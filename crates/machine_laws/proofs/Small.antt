@@ -14,8 +14,8 @@ use Rattle.ov_types.specs.declared.prefix.Addr.{Addr}
 use Rattle.config_types.specs.declared.config.Config.{Config}
 use Rattle.config_types.specs.declared.edit.Edit.{Edit}
 use Rattle.config_types.specs.declared.topology.Node.{Node}
-use Rattle.run_ties.specs.ConfigCheck.Checked.{Checked}
-use Rattle.run_ties.specs.ConfigCheck.Finding.{node_named}
+use Rattle.schedule_script.specs.ConfigCheck.Checked.{Checked}
+use Rattle.schedule_script.specs.ConfigCheck.Finding.{node_named}
 use Rattle.node_laws.specs.NodeModel.Keys.{Key, Low, Vpn, Row, Publish, Subscribe, key_cmp}
 use Rattle.node_laws.specs.NodeModel.Maps.{Map}
 use Rattle.node_laws.specs.NodeModel.Paths as control
@@ -29,7 +29,7 @@ use Rattle.machine_model.specs.Network.{MachineState, AreNamed, config, start, v
 use Rattle.machine_model.specs.Events.{MachineEvent, Edits, Deliver, DeliverOctets, Lose, Connect, Restart, Round, Settle, Show, Trace, Break, edits, next, after}
 use Rattle.machine_model.specs.Moments.{ArePositive, Each, EditIsValid, EditsAreValid, IsLaidOut, LaidOut, NodePair, nodes}
 use Rattle.machine_laws.specs.Settling.{FairMap, Fair, WantsFair, Rank, Goal, back, RanksFit, RightAt, WantAt, Steps, Ranked, SettlesIn, SettleSettlesIn}
-use Rattle.run_ties.specs.ConfigCheck.Edits.{edit_fault, edited_topology}
+use Rattle.schedule_script.specs.ConfigCheck.Edits.{edit_fault, edited_topology}
 use Rattle.config_types.specs.declared.edit.Edit.TheVariants.{Put, Delete}
 use Rattle.config_types.specs.declared.edit.Object.TheVariants as Objects
 use Rattle.config_types.specs.declared.edit.ObjectKind.TheVariants as Kinds

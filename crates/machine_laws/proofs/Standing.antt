@@ -13,8 +13,8 @@ use Rattle.config_types.specs.declared.edit.Edit.TheVariants.{Put}
 use Rattle.config_types.specs.declared.edit.Object.TheVariants as Objects
 use Rattle.config_types.specs.declared.topology.Node.{Node}
 use Rattle.config_types.specs.declared.topology.Topology.{Topology}
-use Rattle.run_ties.specs.ConfigCheck.Edits.{edit_fault, edited as checked_edited}
-use Rattle.run_ties.specs.ConfigCheck.EditFault.{EditFault}
+use Rattle.schedule_script.specs.ConfigCheck.Edits.{edit_fault, edited as checked_edited}
+use Rattle.schedule_script.specs.ConfigCheck.EditFault.{EditFault}
 use Rattle.node_laws.specs.NodeModel.Maps.{Map, Change, difference}
 use Rattle.node_laws.proofs.NodeModel.Members.{none_some}
 use Rattle.machine_model.specs.Setup.{Name, Move, Setup, checked, edited_without, lists, moves, remade, renumbered}

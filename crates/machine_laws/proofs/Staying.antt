@@ -8,8 +8,8 @@ use Rattle.std.proofs.lemmas.Bool.{true≢false, and_parts}
 use Rattle.std.proofs.lemmas.Option.{same_Some}
 use Rattle.std.proofs.Common.{refl, sym, ◌∙◌, ap, subst, inl, inr}
 use Rattle.config_types.specs.declared.edit.Edit.{Edit}
-use Rattle.run_ties.specs.ConfigCheck.Edits.{edit_fault, edited as checked_edited}
-use Rattle.run_ties.specs.ConfigCheck.EditFault.{EditFault}
+use Rattle.schedule_script.specs.ConfigCheck.Edits.{edit_fault, edited as checked_edited}
+use Rattle.schedule_script.specs.ConfigCheck.EditFault.{EditFault}
 use Rattle.ov_types.specs.First.{same_name}
 use Rattle.node_laws.specs.NodeModel.Maps.{Map}
 use Rattle.machine_model.specs.Setup.{Name, Move, checked, edited, edited_without, moves, remade, renumbered}

@@ -12,12 +12,12 @@ use Rattle.config_types.specs.declared.edit.Edit.{Edit}
 use Rattle.config_types.specs.declared.edit.Object.TheVariants as Objects
 use Rattle.config_types.specs.declared.edit.ObjectKind.TheVariants as Kinds
 use Rattle.config_types.specs.declared.topology.Node.{Node}
-use Rattle.run_ties.specs.ConfigCheck.Checked.{Checked}
-use Rattle.run_ties.specs.ConfigCheck.EditLaws.{Appends, Replaces}
-use Rattle.run_ties.specs.ConfigCheck.Edits.{edited_config, edited_topology, node_name, with_put}
-use Rattle.run_ties.specs.ConfigCheck.Finding.{node_named}
-use Rattle.run_ties.specs.ConfigCheck.Rules.{node_names}
-use Rattle.run_ties.proofs.ConfigCheck.EditLaws.{node_put}
+use Rattle.schedule_script.specs.ConfigCheck.Checked.{Checked}
+use Rattle.schedule_script.specs.ConfigCheck.EditLaws.{Appends, Replaces}
+use Rattle.schedule_script.specs.ConfigCheck.Edits.{edited_config, edited_topology, node_name, with_put}
+use Rattle.schedule_script.specs.ConfigCheck.Finding.{node_named}
+use Rattle.schedule_script.specs.ConfigCheck.Rules.{node_names}
+use Rattle.schedule_script.proofs.ConfigCheck.EditLaws.{node_put}
 use Rattle.node_laws.specs.NodeModel.Members.{Member}
 use Rattle.node_laws.proofs.NodeModel.Members.{contains_of, in_right}
 use Rattle.machine_model.specs.Setup.{Move, Name, listed_by, moves, stands}

@@ -28,7 +28,7 @@ use Rattle.node_laws.proofs.NodeModel.Wanted.{row_of_path}
 use Rattle.machine_laws.specs.Compiled.{circuit_prefix}
 use Rattle.machine_laws.proofs.Numbers.{circuit_at-instance}
 use Rattle.machine_laws.proofs.Told.{pair}
-use Rattle.run_ties.specs.Ties.{Ties}
+use Rattle.schedule_script.specs.Ties.{Ties}
 use Rattle.machine_laws.specs.Tied.{AreTied, IsOwnLabel, IsRowLabel, IsTied}
 use Rattle.machine_laws.proofs.Labels.{object_tied, own_leads, publishes_circuit}
 use Rattle.machine_laws.proofs.TiedImports.{imports_lead}

@@ -15,7 +15,7 @@ use Rattle.node_laws.specs.NodeModel.Members.{Member}
 use Rattle.node_laws.specs.NodeModel.Uses.{Use, hop_imports, imports, is_hop, network_imports, place_of, use_from, use_of}
 use Rattle.node_laws.specs.NodeModel.Values.{Entry, Label, Object, Route, Value}
 use Rattle.node_laws.proofs.NodeModel.Members.{in_either, member_when}
-use Rattle.run_ties.specs.Ties.{Ties}
+use Rattle.schedule_script.specs.Ties.{Ties}
 use Rattle.machine_laws.specs.Tied.{AreTied, IsOwnLabel, IsPortLabel, IsRowLabel, IsTiedObject}
 use Rattle.machine_laws.proofs.Labels.{own_port, own_use, place_back}
 

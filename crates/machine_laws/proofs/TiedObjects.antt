@@ -8,7 +8,7 @@ use Rattle.ov_types.specs.declared.numbers.InstanceId.{InstanceId}
 use Rattle.ov_types.proofs.FirstLemmas.{same_name_iff}
 use Rattle.config_types.specs.Form.{has_config_form}
 use Rattle.config_types.specs.declared.config.Network.{Network}
-use Rattle.run_ties.specs.ConfigCheck.Sentences.{IsValid}
+use Rattle.schedule_script.specs.ConfigCheck.Sentences.{IsValid}
 use Rattle.policy_rules.specs.Standing.{AreRelated, LetsThrough}
 use Rattle.transform_forwarding_laws.specs.TransformModel.IsObject.{IsObject, of_left_circuit, of_network, of_networks, of_port, of_right_circuit, of_use}
 use Rattle.transform_forwarding_laws.specs.TransformModel.Objects.{LowObject, low_objects}
@@ -33,7 +33,7 @@ use Rattle.node_laws.proofs.NodeModel.Members.{contains_of}
 use Rattle.config_types.specs.declared.config.Rule.{Rule}
 use Rattle.transform_forwarding_laws.specs.TransformModel.IsUse.{IsUse}
 use Rattle.transform_forwarding_laws.specs.TransformModel.Uses.{ConfiguredUse}
-use Rattle.run_ties.specs.Ties.{AreNear, HasUse, IsTiedBy, Ties}
+use Rattle.schedule_script.specs.Ties.{AreNear, HasUse, IsTiedBy, Ties}
 use Rattle.machine_laws.specs.Tied.{AreTied, IsTied, IsTiedObject}
 use Rattle.machine_laws.proofs.Circuits.{next_hop, other_of_left, other_of_right, sides_in}
 use Rattle.machine_laws.proofs.Entered.{of_rules}

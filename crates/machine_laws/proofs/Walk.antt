@@ -27,7 +27,7 @@ use Rattle.node_laws.specs.NodeModel.Members.{Member}
 use Rattle.node_laws.specs.NodeModel.Uses.{is_hop, use_of}
 use Rattle.node_laws.proofs.NodeModel.Members.{none_some}
 use Rattle.machine_model.specs.Events.{forwarders}
-use Rattle.run_ties.specs.Ties.{AreNear, Ties}
+use Rattle.schedule_script.specs.Ties.{AreNear, Ties}
 use Rattle.machine_laws.specs.Tied.{IsPortLabel, IsRowLabel, IsTiedObject, StandsBetween}
 use Rattle.machine_laws.specs.TiedMoments.{AreJoined, AtTiedMoments, DeliversToJoined}
 use Rattle.machine_laws.proofs.Found.{agent_in, attached_in, delivered_to, dropped, never_both, route_found, same_circuit, same_port}

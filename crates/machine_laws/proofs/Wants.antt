@@ -6,7 +6,7 @@ use Rattle.std.specs.declared.option.Option.{Option}
 use Rattle.std.specs.Prelude.{List, cond, false, length, map, true, ℕ, [], ◌+◌, ◌∷◌, ◌≡◌}
 use Rattle.std.proofs.Common.{inl, inr, subst, sym}
 use Rattle.ov_types.specs.declared.rows.NodeId.{NodeId}
-use Rattle.run_ties.specs.ConfigCheck.Finding.{node_named}
+use Rattle.schedule_script.specs.ConfigCheck.Finding.{node_named}
 use Rattle.node_laws.specs.NodeModel.Agent.{slice_in_use}
 use Rattle.node_laws.specs.NodeModel.Maps.{Map}
 use Rattle.node_laws.specs.NodeModel.Members.{Member}
@@ -19,7 +19,7 @@ use Rattle.machine_model.proofs.Twins.{all_to_own, each_weaker}
 use Rattle.machine_laws.specs.Settling.{Fair}
 use Rattle.machine_laws.proofs.Views.{views}
 use Rattle.ov_types.specs.First.{same_name}
-use Rattle.run_ties.specs.Ties.{Ties}
+use Rattle.schedule_script.specs.Ties.{Ties}
 use Rattle.machine_laws.specs.Tied.{AreTied, tied}
 use Rattle.machine_laws.proofs.Labels.{none_tied}
 use Rattle.machine_laws.proofs.TiedControls.{to_agent, to_peers}

@@ -7,13 +7,13 @@ use Rattle.std.proofs.Common.{refl, subst}
 use Rattle.std.proofs.lemmas.Option.{same_Some}
 use Rattle.ov_types.proofs.FirstLemmas.{both_none, mapped_none}
 use Rattle.config_types.specs.declared.edit.Edit.{Edit}
-use Rattle.run_ties.specs.ConfigCheck.Checked.{Checked}
-use Rattle.run_ties.specs.ConfigCheck.Edits as edits
-use Rattle.run_ties.specs.ConfigCheck.Edits.{edit_fault}
-use Rattle.run_ties.specs.ConfigCheck.Rules.{first_broken}
-use Rattle.run_ties.specs.ConfigCheck.EditFault.TheVariants.{Missing, Rule}
-use Rattle.run_ties.specs.ConfigCheck.EditFault.{EditFault}
-use Rattle.run_ties.proofs.ConfigCheck.Validity.{valid_iff}
+use Rattle.schedule_script.specs.ConfigCheck.Checked.{Checked}
+use Rattle.schedule_script.specs.ConfigCheck.Edits as edits
+use Rattle.schedule_script.specs.ConfigCheck.Edits.{edit_fault}
+use Rattle.schedule_script.specs.ConfigCheck.Rules.{first_broken}
+use Rattle.schedule_script.specs.ConfigCheck.EditFault.TheVariants.{Missing, Rule}
+use Rattle.schedule_script.specs.ConfigCheck.EditFault.{EditFault}
+use Rattle.schedule_script.proofs.ConfigCheck.Validity.{valid_iff}
 use Rattle.transform_forwarding_laws.proofs.TransformModel.Needed.{asked}
 use Rattle.node_laws.specs.NodeModel.Keys.{Key}
 use Rattle.node_laws.specs.NodeModel.Values.{Value}

@@ -5,8 +5,8 @@ use Rattle.std.specs.declared.option.Option.TheVariants.{Some, None}
 use Rattle.std.specs.List.{list_any}
 use Rattle.ov_types.specs.First.{same_name}
 use Rattle.config_types.specs.declared.edit.Edit.{Edit}
-use Rattle.run_ties.specs.ConfigCheck.Edits.{edit_fault}
-use Rattle.run_ties.specs.ConfigCheck.Finding.{node_named}
+use Rattle.schedule_script.specs.ConfigCheck.Edits.{edit_fault}
+use Rattle.schedule_script.specs.ConfigCheck.Finding.{node_named}
 use Rattle.node_laws.specs.NodeModel.Maps.{Change}
 use Rattle.machine_model.specs.Setup.{Name, Move, checked, listed_by, moves}
 use Rattle.machine_model.specs.Session.{Agent, Carries, Controller, SessionEnd, Session}

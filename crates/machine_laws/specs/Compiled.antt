@@ -20,7 +20,7 @@ use Rattle.ov_types.specs.declared.rows.TableRow.{TableRow}
 use Rattle.route_targets.specs.Numbers.{circuit_address_of, circuit_instance_of, distinguisher_of}
 use Rattle.config_types.specs.declared.topology.Node.{Node}
 use Rattle.machine_model.specs.Setup.{Setup}
-use Rattle.run_ties.specs.ConfigCheck.Finding.{node_named}
+use Rattle.schedule_script.specs.ConfigCheck.Finding.{node_named}
 use Rattle.transform_forwarding_laws.specs.TransformModel.Tables.{Row}
 use Rattle.transform_forwarding_laws.specs.TransformModel.Compiled.{route_of}
 use Rattle.node_laws.specs.NodeModel.Keys.{Key, Row as RowKey}

@@ -7,8 +7,8 @@ use Rattle.ov_types.specs.declared.rows.NodeRows.TheVariants as Rows
 use Rattle.route_targets.specs.Forwarding.{forwarding}
 use Rattle.config_types.specs.Form.{has_config_form, has_topology_form}
 use Rattle.config_types.specs.declared.topology.Node.{Node}
-use Rattle.run_ties.specs.ConfigCheck.Checked.{Checked}
-use Rattle.run_ties.specs.ConfigCheck.Rules.{first_broken}
+use Rattle.schedule_script.specs.ConfigCheck.Checked.{Checked}
+use Rattle.schedule_script.specs.ConfigCheck.Rules.{first_broken}
 use Rattle.transform_forwarding_laws.specs.ReachPlain.Reachability.{reachability}
 use Rattle.transform_forwarding_laws.specs.TransformModel.Compiled.{agent_rows}
 use Rattle.transform_forwarding_laws.specs.TransformModel.Tables.{control_rows}

@@ -1,6 +1,6 @@
 -- What holds after any schedule of a network whose configurations have sound low-level objects.
 use Rattle.std.specs.Prelude.{◌≡◌, ℕ, ◌+◌, ◌≤◌, List, true}
-use Rattle.run_ties.specs.ConfigCheck.Checked.{Checked}
+use Rattle.schedule_script.specs.ConfigCheck.Checked.{Checked}
 use Rattle.machine_model.specs.Setup.{Name, longest, opening}
 use Rattle.machine_model.specs.Session.{Message}
 use Rattle.machine_model.specs.Network.{MachineState, start}

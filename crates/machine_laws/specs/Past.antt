@@ -16,8 +16,8 @@ use Rattle.config_types.specs.declared.config.Rule.{Rule}
 use Rattle.config_types.specs.declared.edit.Edit.{Edit}
 use Rattle.config_types.specs.declared.edit.Edit.TheVariants.{Put}
 use Rattle.config_types.specs.declared.edit.Object.TheVariants as Objects
-use Rattle.run_ties.specs.ConfigCheck.Checked.{Checked}
-use Rattle.run_ties.specs.Ties.{HasPort, HasRelated, Ties}
+use Rattle.schedule_script.specs.ConfigCheck.Checked.{Checked}
+use Rattle.schedule_script.specs.Ties.{HasPort, HasRelated, Ties}
 use Rattle.machine_model.specs.Events.{forwarders}
 use Rattle.machine_model.specs.Network.{MachineState}
 use Rattle.machine_laws.specs.Untied.{opening, port}

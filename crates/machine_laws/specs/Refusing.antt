@@ -1,10 +1,10 @@
 -- The machine that keeps ties: an edit that would break one is refused, and changes nothing.
 use Rattle.std.specs.Prelude.{◌≡◌, ℕ, Bool, false, is_some, List, [], ◌∷◌, ◌++◌, Option, Some, None, if◌then◌else◌}
 use Rattle.config_types.specs.declared.config.Config.{Config}
-use Rattle.run_ties.specs.ConfigCheck.Checked.{Checked}
-use Rattle.run_ties.specs.Broken.{broken_tie}
-use Rattle.run_ties.specs.Ties.{Ties}
-use Rattle.run_ties.specs.Tying.{ties_of}
+use Rattle.schedule_script.specs.ConfigCheck.Checked.{Checked}
+use Rattle.schedule_script.specs.Broken.{broken_tie}
+use Rattle.schedule_script.specs.Ties.{Ties}
+use Rattle.schedule_script.specs.Tying.{ties_of}
 use Rattle.machine_model.specs.Events.{MachineEvent, Edits, after, next}
 use Rattle.machine_model.specs.Moments.{ArePositive, EditsAreValid}
 use Rattle.machine_model.specs.Network.{MachineState, start}

@@ -1,9 +1,9 @@
 -- The ties of a run so far: those of the opening configuration, and those that each accepted edit adds.
 use Rattle.std.specs.Prelude.{◌≡◌, ℕ, List, [], ◌∷◌, Option, Some, None}
 use Rattle.config_types.specs.declared.config.Config.{Config}
-use Rattle.run_ties.specs.ConfigCheck.Checked.{Checked}
-use Rattle.run_ties.specs.Ties.{BreaksNone, IsTiedBy, Ties}
-use Rattle.run_ties.specs.Tying.{joined, ties_of}
+use Rattle.schedule_script.specs.ConfigCheck.Checked.{Checked}
+use Rattle.schedule_script.specs.Ties.{BreaksNone, IsTiedBy, Ties}
+use Rattle.schedule_script.specs.Tying.{joined, ties_of}
 use Rattle.node_laws.specs.NodeModel.Members.{Member}
 use Rattle.machine_model.specs.Events.{MachineEvent, Edits, after, next}
 use Rattle.machine_model.specs.Moments.{ArePositive}

@@ -4,7 +4,7 @@ use Rattle.std.specs.declared.option.Option.{Option}
 use Rattle.std.specs.List.{AllByRecursion}
 use Rattle.std.specs.FinMap.{get}
 use Rattle.machine_model.specs.OvSync.Keyed.{PutOf, Values}
-use Rattle.run_ties.specs.ConfigCheck.Checked.{Checked}
+use Rattle.schedule_script.specs.ConfigCheck.Checked.{Checked}
 use Rattle.node_laws.specs.NodeModel.Keys.{Key, key_cmp}
 use Rattle.node_laws.specs.NodeModel.Values.{Value}
 use Rattle.node_laws.specs.NodeModel.Maps.{Map}

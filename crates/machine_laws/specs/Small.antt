@@ -2,7 +2,7 @@
 use Rattle.std.specs.Prelude.{ℕ, [], ◌∷◌}
 use Rattle.ov_types.specs.declared.prefix.Addr.{Addr}
 use Rattle.config_types.specs.declared.config.Config.{Config}
-use Rattle.run_ties.specs.ConfigCheck.Checked.{Checked}
+use Rattle.schedule_script.specs.ConfigCheck.Checked.{Checked}
 use Rattle.config_types.specs.declared.edit.Edit.TheVariants.{Put, Delete}
 use Rattle.config_types.specs.declared.edit.Object.TheVariants as objects
 use Rattle.config_types.specs.declared.edit.ObjectKind.TheVariants as kinds

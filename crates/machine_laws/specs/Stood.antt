@@ -7,7 +7,7 @@ use Rattle.ov_types.specs.declared.packet.Outcome.TheVariants.{Delivered}
 use Rattle.ov_types.specs.declared.packet.Packet.{Packet}
 use Rattle.route_targets.specs.Forwarding.{forwarding}
 use Rattle.config_types.specs.declared.config.Config.{Config}
-use Rattle.run_ties.specs.Ties.{HasPort, HasRelated, HasUse, Ties}
+use Rattle.schedule_script.specs.Ties.{HasPort, HasRelated, HasUse, Ties}
 use Rattle.node_laws.specs.NodeModel.Members.{Member}
 use Rattle.machine_model.specs.Events.{forwarders}
 use Rattle.machine_model.specs.Network.{MachineState}

@@ -10,7 +10,7 @@ use Rattle.ov_types.specs.declared.objects.LowKey.{LowKey}
 use Rattle.ov_types.specs.declared.objects.LowKey.TheVariants as key
 use Rattle.ov_types.specs.declared.objects.LowValue.{LowValue}
 use Rattle.ov_types.specs.declared.objects.LowValue.TheVariants as low
-use Rattle.run_ties.specs.Ties.{AreNear, Ties}
+use Rattle.schedule_script.specs.Ties.{AreNear, Ties}
 use Rattle.route_targets.specs.Numbers.{circuit_instance_of, circuit_label_of, other_side_of, port_label_of, target_of}
 use Rattle.node_laws.specs.NodeModel.Keys.{Key, Low, Vpn, Row, Publish}
 use Rattle.node_laws.specs.NodeModel.Maps.{Map}

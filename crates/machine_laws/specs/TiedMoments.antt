@@ -6,8 +6,8 @@ use Rattle.ov_types.specs.declared.numbers.ServiceNo.{ServiceNo}
 use Rattle.ov_types.specs.declared.packet.Outcome.TheVariants.{Delivered}
 use Rattle.ov_types.specs.declared.packet.Packet.{Packet}
 use Rattle.route_targets.specs.Forwarding.{forwarding}
-use Rattle.run_ties.specs.ConfigCheck.Checked.{Checked}
-use Rattle.run_ties.specs.Ties.{AreNear, IsTiedBy, Ties}
+use Rattle.schedule_script.specs.ConfigCheck.Checked.{Checked}
+use Rattle.schedule_script.specs.Ties.{AreNear, IsTiedBy, Ties}
 use Rattle.machine_model.specs.Events.{MachineEvent, after, forwarders}
 use Rattle.machine_model.specs.Moments.{ArePositive, Each, EditsAreValid}
 use Rattle.machine_model.specs.Network.{MachineState, start}

@@ -14,7 +14,7 @@ use Rattle.config_types.specs.declared.edit.Edit.{Edit}
 use Rattle.config_types.specs.declared.edit.Edit.TheVariants.{Put}
 use Rattle.config_types.specs.declared.edit.Object.TheVariants as Objects
 use Rattle.config_types.specs.declared.topology.Node.{Node}
-use Rattle.run_ties.specs.ConfigCheck.Checked.{Checked}
+use Rattle.schedule_script.specs.ConfigCheck.Checked.{Checked}
 use Rattle.node_laws.specs.NodeModel.Agent as agent
 use Rattle.machine_model.specs.Events.{MachineEvent, Edits, after, agent_rows, forwarders, next}
 use Rattle.machine_model.specs.Moments.{ArePositive, EditIsValid, EditsAreValid}

@@ -7,7 +7,7 @@ use Rattle.std.proofs.lemmas.Option.{same_Some}
 use Rattle.ov_types.specs.declared.objects.LowKey.TheVariants as key
 use Rattle.ov_types.specs.declared.objects.LowKey.{LowKey}
 use Rattle.ov_types.specs.declared.objects.LowValue.{LowValue}
-use Rattle.run_ties.specs.ConfigCheck.Checked.{Checked}
+use Rattle.schedule_script.specs.ConfigCheck.Checked.{Checked}
 use Rattle.node_laws.specs.NodeModel.Agent as agent
 use Rattle.node_laws.specs.NodeModel.Agent.{acl_entry, slice_in_use}
 use Rattle.node_laws.specs.NodeModel.Keys.{Low}

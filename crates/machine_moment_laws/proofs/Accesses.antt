@@ -38,8 +38,8 @@ use Rattle.reach_plain.proofs.PolicyRules.Deciders.{of_decider}
 use Rattle.reach_plain.proofs.PolicyRules.Standing.{between_iff}
 use Rattle.reach_plain.proofs.PolicyRules.Taking.{deciding_iff}
 use Rattle.reach_plain.specs.Outcomes.{LeadsThrough}
-use Rattle.run_ties.specs.ConfigCheck.Sentences.{NamesEnds}
-use Rattle.run_ties.specs.Ties.{AreNear, Ties}
+use Rattle.schedule_script.specs.ConfigCheck.Sentences.{NamesEnds}
+use Rattle.schedule_script.specs.Ties.{AreNear, Ties}
 use Rattle.acl_compile.specs.Laws.{entry_by}
 use Rattle.acl_compile.proofs.Deciding.{first_entry}
 use Rattle.transform_forwarding_laws.specs.AclCompile.Oriented.{acl_rules, ascending, does, put_prefix}

@@ -34,7 +34,7 @@ use Rattle.node_laws.proofs.NodeModel.Heard.{route_is}
 use Rattle.node_laws.proofs.NodeModel.Members.{from_entry, from_filter_map, from_flat_map, from_map, in_either, none_some}
 use Rattle.node_laws.proofs.NodeModel.Objects.{is_hop-hop}
 use Rattle.node_laws.proofs.NodeModel.Orders.{key_exact, key_total}
-use Rattle.run_ties.specs.Ties.{Ties}
+use Rattle.schedule_script.specs.Ties.{Ties}
 use Rattle.machine_laws.proofs.Labels.{label_of}
 use Rattle.machine_laws.proofs.Told.{pair, publications, subscription_of, subscriptions_of}
 use Rattle.machine_moment_laws.proofs.ControlsStood.{object_stood}

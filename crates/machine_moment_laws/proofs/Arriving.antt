@@ -25,7 +25,7 @@ use Rattle.ov_types.specs.declared.rows.Entry.{Entry as RouteEntry}
 use Rattle.route_targets.specs.Forwarding.{Forwarder, agent_at, attached as under, followed, handed, looked_up, route_in, visited, walk}
 use Rattle.route_targets.specs.Numbers.{circuit_instance_of, other_side_of}
 use Rattle.config_types.specs.declared.topology.Node.{Node}
-use Rattle.run_ties.specs.ConfigCheck.Checked.{Checked}
+use Rattle.schedule_script.specs.ConfigCheck.Checked.{Checked}
 use Rattle.reach_plain.proofs.Found.{finds}
 use Rattle.reach_plain.proofs.Kept.{valid}
 use Rattle.transform_forwarding_laws.proofs.Lists.{only_longest}

@@ -14,7 +14,7 @@ use Rattle.ov_types.specs.declared.verdict.Verdict.TheVariants as Says
 use Rattle.route_targets.specs.Forwarding.{Forwarder, admitted, departed, forwarding, visited, walk}
 use Rattle.route_targets.specs.Numbers.{circuit_instance_of, other_side_of}
 use Rattle.config_types.specs.declared.topology.Node.{Node}
-use Rattle.run_ties.specs.ConfigCheck.Checked.{Checked}
+use Rattle.schedule_script.specs.ConfigCheck.Checked.{Checked}
 use Rattle.node_laws.specs.NodeModel.Agent.{slice_in_use}
 use Rattle.node_laws.specs.NodeModel.Members.{Member}
 use Rattle.node_laws.specs.NodeModel.Wants.{slice}

@@ -2,7 +2,7 @@
 use Rattle.std.specs.Prelude.{List, map, ℕ, [], ◌∷◌}
 use Rattle.std.specs.declared.option.Option.{Option}
 use Rattle.std.proofs.Common.{inl, refl, subst, sym}
-use Rattle.run_ties.specs.ConfigCheck.Checked.{Checked}
+use Rattle.schedule_script.specs.ConfigCheck.Checked.{Checked}
 use Rattle.node_laws.specs.NodeModel.Members.{Member}
 use Rattle.node_laws.proofs.NodeModel.Members.{in_left, in_right}
 use Rattle.machine_model.specs.Events.{MachineEvent, Break, Connect, Deliver, DeliverOctets, Edits, Lose, Restart, Round, Settle, Show, Trace, after, next}

@@ -7,7 +7,7 @@ use Rattle.ov_types.specs.declared.numbers.InstanceId.{InstanceId}
 use Rattle.ov_types.specs.declared.verdict.Verdict.{Verdict}
 use Rattle.ov_types.specs.declared.verdict.Verdict.TheVariants as Says
 use Rattle.route_targets.specs.Forwarding.{Forwarder, admitted, departed, forwarding, walk}
-use Rattle.run_ties.specs.ConfigCheck.Checked.{Checked}
+use Rattle.schedule_script.specs.ConfigCheck.Checked.{Checked}
 use Rattle.machine_model.specs.Events.{after, forwarders}
 use Rattle.machine_model.specs.Network.{MachineState, start}
 use Rattle.machine_moment_laws.specs.Arriving.{DeliversByOne, GoesOnIn, GoesTheCommonWay, StartsWhereCommon, VerdictsAreOfSome, agent_at_node}

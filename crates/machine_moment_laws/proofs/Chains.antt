@@ -11,7 +11,7 @@ use Rattle.ov_types.specs.declared.numbers.Label.{Label as LabelNo}
 use Rattle.ov_types.specs.declared.vpn.VpnKey.{VpnKey}
 use Rattle.route_targets.specs.Numbers.{circuit_instance_of, distinguisher_of, target_of}
 use Rattle.config_types.specs.declared.topology.Node.{Node}
-use Rattle.run_ties.specs.ConfigCheck.Checked.{Checked}
+use Rattle.schedule_script.specs.ConfigCheck.Checked.{Checked}
 use Rattle.node_laws.specs.NodeModel.Keys.{Publish}
 use Rattle.node_laws.specs.NodeModel.Maps.{Map, as_label}
 use Rattle.node_laws.specs.NodeModel.Members.{Member}

@@ -5,7 +5,7 @@ use Rattle.std.specs.declared.option.Option.TheVariants.{None, Some}
 use Rattle.std.specs.declared.option.Option.{Option}
 use Rattle.std.proofs.Common.{ap, inl, inr, refl, subst, sym, ◌∙◌}
 use Rattle.config_types.specs.declared.edit.Edit.{Edit}
-use Rattle.run_ties.specs.ConfigCheck.Checked.{Checked}
+use Rattle.schedule_script.specs.ConfigCheck.Checked.{Checked}
 use Rattle.node_laws.specs.NodeModel.Members.{Member}
 use Rattle.node_laws.proofs.NodeModel.Members.{in_either}
 use Rattle.machine_model.specs.Events.{Break, Connect, Deliver, DeliverOctets, Edits, Lose, MachineEvent, Restart, Round, Settle, Show, Trace, after, edits, next}

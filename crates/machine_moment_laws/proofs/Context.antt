@@ -12,7 +12,7 @@ use Rattle.route_targets.specs.Numbers.{port_label_of}
 use Rattle.config_types.specs.declared.config.Config.{Config}
 use Rattle.config_types.specs.declared.config.Network.{Network}
 use Rattle.config_types.specs.declared.config.Rule.{Rule}
-use Rattle.run_ties.specs.Ties.{AreNear, HasUse, Ties}
+use Rattle.schedule_script.specs.Ties.{AreNear, HasUse, Ties}
 use Rattle.transform_forwarding_laws.specs.TransformModel.IsUse.{IsUse}
 use Rattle.transform_forwarding_laws.specs.TransformModel.Uses.{ConfiguredUse}
 use Rattle.transform_forwarding_laws.proofs.Blocks.{Holds, host_is}

@@ -34,7 +34,7 @@ use Rattle.node_laws.proofs.NodeModel.Routes.{own_route_from, reoriginated_from}
 use Rattle.node_laws.proofs.NodeModel.Selection.{selected_least}
 use Rattle.node_laws.proofs.NodeModel.Unknown.{target_from}
 use Rattle.node_laws.proofs.NodeModel.Wanted.{row_of_path}
-use Rattle.run_ties.specs.Ties.{Ties}
+use Rattle.schedule_script.specs.Ties.{Ties}
 use Rattle.machine_laws.specs.Compiled.{circuit_prefix}
 use Rattle.machine_laws.proofs.Labels.{publishes_circuit}
 use Rattle.machine_laws.proofs.Numbers.{circuit_at-instance}

@@ -19,7 +19,7 @@ use Rattle.ov_types.specs.declared.rows.Attached.TheVariants.{Circuit, Port}
 use Rattle.ov_types.specs.declared.rows.TableRow.{TableRow}
 use Rattle.route_targets.specs.Numbers.{circuit_instance_of, circuit_label_of, hop_instance_of, left_circuit_of, other_side_of, right_circuit_of}
 use Rattle.config_types.specs.declared.topology.Node.{Node}
-use Rattle.run_ties.specs.ConfigCheck.Checked.{Checked}
+use Rattle.schedule_script.specs.ConfigCheck.Checked.{Checked}
 use Rattle.node_laws.specs.NodeModel.Agent.{attached}
 use Rattle.node_laws.specs.NodeModel.Maps.{Map, objects}
 use Rattle.node_laws.specs.NodeModel.Members.{Member}

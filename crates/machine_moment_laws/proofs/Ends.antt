@@ -29,8 +29,8 @@ use Rattle.config_types.specs.declared.config.Action.TheVariants.{Pass, Through}
 use Rattle.config_types.specs.declared.config.Network.{Network}
 use Rattle.config_types.specs.declared.topology.Node.{Node}
 use Rattle.policy_rules.proofs.Relations.{related_iff}
-use Rattle.run_ties.specs.ConfigCheck.Checked.{Checked}
-use Rattle.run_ties.specs.ConfigCheck.Sentences.{IsAround}
+use Rattle.schedule_script.specs.ConfigCheck.Checked.{Checked}
+use Rattle.schedule_script.specs.ConfigCheck.Sentences.{IsAround}
 use Rattle.reach_plain.specs.ChainExpand.Expansion.{expansion}
 use Rattle.reach_plain.specs.PolicyRules.Match.{Match}
 use Rattle.reach_plain.specs.PolicyRules.Standing.{AreRelated, PassesBetween}

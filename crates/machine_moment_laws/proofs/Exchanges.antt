@@ -4,7 +4,7 @@ use Rattle.std.specs.Prelude.{◌≡◌, ◌≤◌, ℕ, suc, List, [], ◌∷�
 use Rattle.std.specs.List.{AllByRecursion}
 use Rattle.std.proofs.Common.{ap, arith, inl, inr, refl, subst, sym, ◌∙◌}
 use Rattle.ov_sync.specs.Keyed.{PutOf}
-use Rattle.run_ties.specs.ConfigCheck.Checked.{Checked}
+use Rattle.schedule_script.specs.ConfigCheck.Checked.{Checked}
 use Rattle.node_laws.specs.NodeModel.Keys.{Key, key_cmp}
 use Rattle.node_laws.specs.NodeModel.Maps.{Change, Map, difference}
 use Rattle.node_laws.specs.NodeModel.Members.{Member}

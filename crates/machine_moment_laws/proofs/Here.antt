@@ -17,11 +17,11 @@ use Rattle.config_types.specs.declared.edit.ObjectKind.TheVariants as Kinds
 use Rattle.config_types.specs.declared.edit.ObjectKind.{ObjectKind}
 use Rattle.config_types.specs.declared.topology.Node.{Node}
 use Rattle.config_types.specs.declared.topology.Topology.{Topology}
-use Rattle.run_ties.specs.ConfigCheck.Checked.{Checked}
-use Rattle.run_ties.specs.ConfigCheck.EditFault.{EditFault}
-use Rattle.run_ties.specs.ConfigCheck.Edits.{edit_fault}
-use Rattle.run_ties.specs.ConfigCheck.Finding.{node_named}
-use Rattle.run_ties.specs.ConfigCheck.Rules.{controller_names, node_names}
+use Rattle.schedule_script.specs.ConfigCheck.Checked.{Checked}
+use Rattle.schedule_script.specs.ConfigCheck.EditFault.{EditFault}
+use Rattle.schedule_script.specs.ConfigCheck.Edits.{edit_fault}
+use Rattle.schedule_script.specs.ConfigCheck.Finding.{node_named}
+use Rattle.schedule_script.specs.ConfigCheck.Rules.{controller_names, node_names}
 use Rattle.node_laws.specs.NodeModel.Members.{Member}
 use Rattle.node_laws.proofs.NodeModel.Members.{any_in, from_any, from_filter, from_map, in_either, in_left, in_map, in_right, none_some}
 use Rattle.machine_model.specs.Events.{Edits, edits, moved, next}

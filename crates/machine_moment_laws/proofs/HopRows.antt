@@ -14,7 +14,7 @@ use Rattle.ov_types.specs.declared.objects.LowValue.TheVariants as low
 use Rattle.ov_types.specs.declared.prefix.Addr.{Addr}
 use Rattle.ov_types.specs.declared.rows.TableRow.{TableRow}
 use Rattle.route_targets.specs.Numbers.{left_circuit_of, right_circuit_of}
-use Rattle.run_ties.specs.ConfigCheck.Checked.{Checked}
+use Rattle.schedule_script.specs.ConfigCheck.Checked.{Checked}
 use Rattle.node_laws.specs.NodeModel.Maps.{Map, object}
 use Rattle.node_laws.specs.NodeModel.Members.{Member}
 use Rattle.node_laws.specs.NodeModel.Reaching.{Side, circuit_at, hop_at, sides, subnets}

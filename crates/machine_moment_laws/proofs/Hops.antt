@@ -10,7 +10,7 @@ use Rattle.ov_types.specs.declared.numbers.ServiceNo.{ServiceNo}
 use Rattle.route_targets.specs.Numbers.{circuit_instance_of, circuit_label_of, hop_instance_of, left_circuit_of, other_side_of, right_circuit_of}
 use Rattle.config_types.specs.declared.config.Config.{Config}
 use Rattle.config_types.specs.declared.config.Service.{Service}
-use Rattle.run_ties.specs.Ties.{Ties}
+use Rattle.schedule_script.specs.Ties.{Ties}
 use Rattle.transform_forwarding_laws.specs.TransformModel.IsUse.{IsUse}
 use Rattle.transform_forwarding_laws.specs.TransformModel.Uses.{ConfiguredUse}
 use Rattle.machine_laws.specs.Compiled.{circuit_prefix}

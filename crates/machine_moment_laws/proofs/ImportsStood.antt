@@ -21,7 +21,7 @@ use Rattle.node_laws.specs.NodeModel.Uses.{hop_imports, imports, is_hop, network
 use Rattle.node_laws.specs.NodeModel.Values.{Entry, Label, Object, Route, Value}
 use Rattle.node_laws.proofs.NodeModel.Members.{in_either, member_when}
 use Rattle.node_laws.proofs.NodeModel.Objects.{is_hop-hop}
-use Rattle.run_ties.specs.Ties.{Ties}
+use Rattle.schedule_script.specs.Ties.{Ties}
 use Rattle.machine_laws.proofs.Labels.{place_back}
 use Rattle.machine_moment_laws.proofs.LowStood.{network_is_no_hop}
 use Rattle.machine_moment_laws.proofs.SoFar.{AllStood, IsOwn, IsPortOf, IsRowOf, IsUseOf}

@@ -9,9 +9,9 @@ use Rattle.ov_types.specs.declared.numbers.Label.{Label as LabelNo}
 use Rattle.ov_types.specs.declared.prefix.Addr.{Addr}
 use Rattle.ov_types.specs.declared.rows.TableRow.{TableRow}
 use Rattle.ov_types.proofs.FirstLemmas.{any_of}
-use Rattle.run_ties.specs.ConfigCheck.Checked.{Checked}
-use Rattle.run_ties.specs.ConfigCheck.Sentences.{IsValid}
-use Rattle.run_ties.proofs.ConfigCheck.Validity.{valid_iff}
+use Rattle.schedule_script.specs.ConfigCheck.Checked.{Checked}
+use Rattle.schedule_script.specs.ConfigCheck.Sentences.{IsValid}
+use Rattle.schedule_script.proofs.ConfigCheck.Validity.{valid_iff}
 use Rattle.transform_forwarding_laws.proofs.Blocks.{host_is, one_subnet}
 use Rattle.node_laws.specs.NodeModel.Maps.{Map}
 use Rattle.node_laws.specs.NodeModel.Members.{Member}

@@ -14,9 +14,9 @@ use Rattle.config_types.specs.declared.edit.Object.{Object}
 use Rattle.config_types.specs.declared.edit.Object.TheVariants as Objects
 use Rattle.config_types.specs.declared.edit.ObjectKind.{ObjectKind}
 use Rattle.config_types.specs.declared.edit.ObjectKind.TheVariants as Kinds
-use Rattle.run_ties.specs.ConfigCheck.Checked.{Checked}
-use Rattle.run_ties.specs.ConfigCheck.EditLaws.{chains_of, networks_of, nodes_of, policies_of, ports_of, services_of}
-use Rattle.run_ties.specs.ConfigCheck.Edits.{chain_name, edited, network_name, node_name, policy_name, port_name, service_name}
+use Rattle.schedule_script.specs.ConfigCheck.Checked.{Checked}
+use Rattle.schedule_script.specs.ConfigCheck.EditLaws.{chains_of, networks_of, nodes_of, policies_of, ports_of, services_of}
+use Rattle.schedule_script.specs.ConfigCheck.Edits.{chain_name, edited, network_name, node_name, policy_name, port_name, service_name}
 use Rattle.reach_plain.specs.Reachability.{reachability}
 use Rattle.node_laws.specs.NodeModel.Members.{Member}
 use Rattle.machine_model.specs.Events.{after, forwarders}

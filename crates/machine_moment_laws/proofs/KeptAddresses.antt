@@ -12,11 +12,11 @@ use Rattle.config_types.specs.declared.edit.Edit.TheVariants.{Delete, Put}
 use Rattle.config_types.specs.declared.edit.Object.TheVariants as Objects
 use Rattle.config_types.specs.declared.edit.ObjectKind.{ObjectKind}
 use Rattle.config_types.specs.declared.edit.ObjectKind.TheVariants as Kinds
-use Rattle.run_ties.specs.ConfigCheck.Checked.{Checked}
-use Rattle.run_ties.specs.ConfigCheck.EditLaws.{Appends, Replaces}
-use Rattle.run_ties.specs.ConfigCheck.Edits.{edited, edited_config, missing_name, port_name}
-use Rattle.run_ties.specs.ConfigCheck.Sentences.{IsValid}
-use Rattle.run_ties.proofs.ConfigCheck.EditLaws.{port_deleted, port_put}
+use Rattle.schedule_script.specs.ConfigCheck.Checked.{Checked}
+use Rattle.schedule_script.specs.ConfigCheck.EditLaws.{Appends, Replaces}
+use Rattle.schedule_script.specs.ConfigCheck.Edits.{edited, edited_config, missing_name, port_name}
+use Rattle.schedule_script.specs.ConfigCheck.Sentences.{IsValid}
+use Rattle.schedule_script.proofs.ConfigCheck.EditLaws.{port_deleted, port_put}
 use Rattle.reach_plain.proofs.ConfigCheck.Finders.{finds_port_numbered}
 use Rattle.machine_moment_laws.specs.Kept.{HasOneAddress, PutsPort}
 

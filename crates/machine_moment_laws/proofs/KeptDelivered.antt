@@ -23,8 +23,8 @@ use Rattle.reach_plain.specs.Reachability.{reachability}
 use Rattle.config_types.specs.declared.config.Network.{Network}
 use Rattle.config_types.specs.declared.config.Port.{Port}
 use Rattle.config_types.specs.declared.topology.Node.{Node}
-use Rattle.run_ties.specs.ConfigCheck.Checked.{Checked}
-use Rattle.run_ties.specs.ConfigCheck.Finding.{port_numbered}
+use Rattle.schedule_script.specs.ConfigCheck.Checked.{Checked}
+use Rattle.schedule_script.specs.ConfigCheck.Finding.{port_numbered}
 use Rattle.reach_plain.proofs.ConfigCheck.Finders.{finds_port_numbered}
 use Rattle.transform_forwarding_laws.specs.TransformModel.Objects.{low_objects}
 use Rattle.transform_forwarding_laws.proofs.Valid.{one_node}

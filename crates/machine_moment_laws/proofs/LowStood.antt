@@ -6,8 +6,8 @@ use Rattle.ov_types.specs.declared.numbers.InstanceId.{InstanceId}
 use Rattle.config_types.specs.Form.{has_config_form}
 use Rattle.config_types.specs.declared.config.Config.{Config}
 use Rattle.config_types.specs.declared.config.Network.{Network}
-use Rattle.run_ties.specs.ConfigCheck.Sentences.{IsValid}
-use Rattle.run_ties.specs.Ties.{IsTiedBy, Ties}
+use Rattle.schedule_script.specs.ConfigCheck.Sentences.{IsValid}
+use Rattle.schedule_script.specs.Ties.{IsTiedBy, Ties}
 use Rattle.transform_forwarding_laws.specs.TransformModel.IsObject.{IsHop, IsObject, of_left_circuit, of_network, of_networks, of_port, of_right_circuit, of_use}
 use Rattle.transform_forwarding_laws.specs.TransformModel.Objects.{LowObject, low_objects}
 use Rattle.transform_forwarding_laws.proofs.TransformModel.LowKeys.{low_is}

@@ -20,9 +20,9 @@ use Rattle.ov_types.specs.declared.objects.LowValue.TheVariants as low
 use Rattle.ov_types.specs.declared.prefix.Addr.{Addr}
 use Rattle.route_targets.specs.Numbers.{circuit_instance_of, circuit_label_of, left_circuit_of, right_circuit_of}
 use Rattle.config_types.specs.declared.topology.Node.{Node}
-use Rattle.run_ties.specs.ConfigCheck.Checked.{Checked}
-use Rattle.run_ties.specs.ConfigCheck.Sentences.{IsValid}
-use Rattle.run_ties.proofs.ConfigCheck.Validity.{valid_iff}
+use Rattle.schedule_script.specs.ConfigCheck.Checked.{Checked}
+use Rattle.schedule_script.specs.ConfigCheck.Sentences.{IsValid}
+use Rattle.schedule_script.proofs.ConfigCheck.Validity.{valid_iff}
 use Rattle.transform_forwarding_laws.specs.TransformModel.IsObject.{IsObject}
 use Rattle.transform_forwarding_laws.specs.TransformModel.Objects.{LowObject}
 use Rattle.node_laws.specs.NodeModel.Agent.{entered_by, needed_for}

@@ -7,10 +7,10 @@ use Rattle.route_targets.specs.Forwarding.{Forwarder}
 use Rattle.config_types.specs.declared.config.Config.{Config}
 use Rattle.config_types.specs.declared.edit.Edit.{Edit}
 use Rattle.config_types.specs.declared.topology.Node.{Node}
-use Rattle.run_ties.specs.ConfigCheck.Checked.{Checked}
-use Rattle.run_ties.proofs.ConfigCheck.Validity.{valid_iff}
-use Rattle.run_ties.specs.Ties.{IsTiedBy, Ties}
-use Rattle.run_ties.specs.Tying.{ties_of}
+use Rattle.schedule_script.specs.ConfigCheck.Checked.{Checked}
+use Rattle.schedule_script.proofs.ConfigCheck.Validity.{valid_iff}
+use Rattle.schedule_script.specs.Ties.{IsTiedBy, Ties}
+use Rattle.schedule_script.specs.Tying.{ties_of}
 use Rattle.node_laws.specs.NodeModel.Agent as agent
 use Rattle.node_laws.specs.NodeModel.Maps.{Map}
 use Rattle.node_laws.specs.NodeModel.Members.{Member}

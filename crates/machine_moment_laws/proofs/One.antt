@@ -9,7 +9,7 @@ use Rattle.ov_types.specs.declared.packet.Outcome.TheVariants.{Delivered}
 use Rattle.ov_types.specs.declared.packet.Packet.{Packet}
 use Rattle.ov_types.proofs.FirstLemmas.{all_cons, any_of, contains_cases, contains_here}
 use Rattle.route_targets.specs.Forwarding.{forwarding}
-use Rattle.run_ties.specs.ConfigCheck.Checked.{Checked}
+use Rattle.schedule_script.specs.ConfigCheck.Checked.{Checked}
 use Rattle.reach_plain.specs.Reachability.{reachability}
 use Rattle.node_laws.specs.NodeModel.Members.{Member}
 use Rattle.hitless_laws.specs.Keeping.{IsValidAsWritten, Keep}

@@ -8,8 +8,8 @@ use Rattle.config_types.specs.Form.{has_event_form}
 use Rattle.config_types.specs.declared.config.Config.{Config}
 use Rattle.config_types.specs.declared.event.Event.{Event as Written}
 use Rattle.config_types.specs.declared.event.Event.TheVariants as written
-use Rattle.run_ties.specs.ConfigCheck.Checked.{Checked}
-use Rattle.schedule_tied_answers.specs.declared.answer.TiedAnswer.{TiedAnswer}
+use Rattle.schedule_script.specs.ConfigCheck.Checked.{Checked}
+use Rattle.schedule_script.specs.declared.tied_answer.TiedAnswer.{TiedAnswer}
 use Rattle.machine_model.specs.Setup.{opening}
 use Rattle.machine_model.specs.Events.{event_of}
 use Rattle.machine_laws.specs.Headline.{IsWritten}

@@ -23,7 +23,7 @@ use Rattle.route_targets.specs.Numbers.{port_label_of}
 use Rattle.config_types.specs.declared.config.Config.{Config}
 use Rattle.config_types.specs.declared.config.Service.{Service}
 use Rattle.reach_plain.proofs.PolicyRules.Taking.{first_answer}
-use Rattle.run_ties.specs.Ties.{IsTiedBy, Ties}
+use Rattle.schedule_script.specs.Ties.{IsTiedBy, Ties}
 use Rattle.transform_forwarding_laws.specs.TransformModel.Uses.{ConfiguredUse}
 use Rattle.transform_forwarding_laws.proofs.TransformModel.InUse.{few_services}
 use Rattle.transform_forwarding_laws.proofs.TransformModel.Lists.{mapped_some}

@@ -16,9 +16,9 @@ use Rattle.reach_plain.specs.Outcomes.{IsDelivered, IsLetThrough, IsTowards, May
 use Rattle.reach_plain.specs.Reachability.{reachability}
 use Rattle.reach_plain.proofs.Becoming.{outcome_iff}
 use Rattle.reach_plain.proofs.Found.{target_is}
-use Rattle.run_ties.specs.ConfigCheck.Checked.{Checked}
-use Rattle.run_ties.specs.ConfigCheck.Sentences.{IsValid}
-use Rattle.run_ties.proofs.ConfigCheck.Validity.{valid_iff}
+use Rattle.schedule_script.specs.ConfigCheck.Checked.{Checked}
+use Rattle.schedule_script.specs.ConfigCheck.Sentences.{IsValid}
+use Rattle.schedule_script.proofs.ConfigCheck.Validity.{valid_iff}
 use Rattle.transform_forwarding_laws.specs.TransformModel.IsUse.{IsUse}
 use Rattle.transform_forwarding_laws.specs.TransformModel.Uses.{ConfiguredUse}
 use Rattle.transform_forwarding_laws.proofs.TransformModel.InUse.{one_use}

@@ -10,8 +10,8 @@ use Rattle.ov_types.specs.First.{same_name}
 use Rattle.ov_types.specs.declared.rows.NodeId.{NodeId}
 use Rattle.config_types.specs.declared.topology.Node.{Node}
 use Rattle.config_types.specs.declared.topology.Topology.{Topology}
-use Rattle.run_ties.specs.ConfigCheck.Finding.{node_named}
-use Rattle.run_ties.specs.ConfigCheck.Rules.{controller_names, node_names}
+use Rattle.schedule_script.specs.ConfigCheck.Finding.{node_named}
+use Rattle.schedule_script.specs.ConfigCheck.Rules.{controller_names, node_names}
 use Rattle.node_laws.specs.NodeModel.Members.{Member}
 use Rattle.node_laws.proofs.NodeModel.Members.{from_map, in_either, in_map}
 use Rattle.node_laws.specs.NodeModel.Maps.{Map, objects}

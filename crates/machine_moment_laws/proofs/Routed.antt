@@ -13,7 +13,7 @@ use Rattle.ov_types.specs.declared.prefix.Addr.{Addr}
 use Rattle.ov_types.specs.declared.rows.Entry.{Entry as RouteEntry}
 use Rattle.ov_types.specs.declared.rows.TableRow.{TableRow}
 use Rattle.route_targets.specs.Numbers.{distinguisher_of, target_of}
-use Rattle.run_ties.specs.ConfigCheck.Checked.{Checked}
+use Rattle.schedule_script.specs.ConfigCheck.Checked.{Checked}
 use Rattle.transform_forwarding_laws.specs.TransformModel.Compiled.{route_of}
 use Rattle.transform_forwarding_laws.specs.TransformModel.Tables.{Row}
 use Rattle.node_laws.specs.NodeModel.Agent.{acl_entry, attached, needed_by}

@@ -19,8 +19,8 @@ use Rattle.config_types.specs.declared.config.Port.{Port}
 use Rattle.config_types.specs.declared.config.Service.{Service}
 use Rattle.config_types.specs.declared.topology.Topology.{Topology}
 use Rattle.reach_plain.specs.PolicyRules.Standing.{AreRelated}
-use Rattle.run_ties.specs.ConfigCheck.Sentences.{IsValid}
-use Rattle.run_ties.specs.Ties.{IsTiedBy, Ties}
+use Rattle.schedule_script.specs.ConfigCheck.Sentences.{IsValid}
+use Rattle.schedule_script.specs.Ties.{IsTiedBy, Ties}
 use Rattle.transform_forwarding_laws.specs.AclCompile.Oriented.{acl_rules, ascending}
 use Rattle.transform_forwarding_laws.specs.TransformModel.IsUse.{IsUse}
 use Rattle.transform_forwarding_laws.specs.TransformModel.Uses.{ConfiguredUse}

@@ -21,8 +21,8 @@ use Rattle.ov_types.specs.declared.rows.Attached.TheVariants.{Port}
 use Rattle.route_targets.specs.Forwarding.{Forwarder, as_port, attached as under, source_at}
 use Rattle.route_targets.specs.Numbers.{port_label_of}
 use Rattle.config_types.specs.declared.topology.Node.{Node}
-use Rattle.run_ties.specs.ConfigCheck.Checked.{Checked}
-use Rattle.run_ties.specs.ConfigCheck.Finding.{node_named}
+use Rattle.schedule_script.specs.ConfigCheck.Checked.{Checked}
+use Rattle.schedule_script.specs.ConfigCheck.Finding.{node_named}
 use Rattle.node_laws.specs.NodeModel.Agent as agent
 use Rattle.node_laws.specs.NodeModel.Agent.{attached, slice_in_use}
 use Rattle.node_laws.specs.NodeModel.Keys.{Low, key_cmp}

@@ -21,8 +21,8 @@ use Rattle.ov_types.specs.declared.rows.NodeId.{NodeId}
 use Rattle.ov_types.specs.declared.numbers.Rd.{Rd}
 use Rattle.route_targets.specs.Numbers.{circuit_instance_of, distinguisher_of, target_of}
 use Rattle.config_types.specs.declared.topology.Node.{Node}
-use Rattle.run_ties.specs.ConfigCheck.Checked.{Checked}
-use Rattle.run_ties.specs.ConfigCheck.Finding.{node_named}
+use Rattle.schedule_script.specs.ConfigCheck.Checked.{Checked}
+use Rattle.schedule_script.specs.ConfigCheck.Finding.{node_named}
 use Rattle.transform_forwarding_laws.specs.TransformModel.Objects.{low_objects}
 use Rattle.node_laws.specs.NodeModel.Agent as agent
 use Rattle.node_laws.specs.NodeModel.Agent.{needed_by, publication, slice_in_use, told_of}

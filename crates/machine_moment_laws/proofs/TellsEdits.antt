@@ -13,9 +13,9 @@ use Rattle.ov_types.specs.declared.rows.NodeId.{NodeId}
 use Rattle.config_types.specs.declared.edit.Edit.{Edit}
 use Rattle.config_types.specs.declared.topology.Node.{Node}
 use Rattle.config_types.specs.declared.topology.Topology.{Topology}
-use Rattle.run_ties.specs.ConfigCheck.Edits.{edit_fault, edited as checked_edited}
-use Rattle.run_ties.specs.ConfigCheck.Finding.{node_named}
-use Rattle.run_ties.specs.ConfigCheck.Rules.{controller_names}
+use Rattle.schedule_script.specs.ConfigCheck.Edits.{edit_fault, edited as checked_edited}
+use Rattle.schedule_script.specs.ConfigCheck.Finding.{node_named}
+use Rattle.schedule_script.specs.ConfigCheck.Rules.{controller_names}
 use Rattle.control_silent_agent_laws.specs.Quiet.{IsWithout, SameButQuiet}
 use Rattle.control_silent_agent_laws.proofs.Quiet.{quiet_by_agent, quiet_by_peers}
 use Rattle.node_laws.specs.NodeModel.Agent as agent

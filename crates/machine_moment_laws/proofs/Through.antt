@@ -20,7 +20,7 @@ use Rattle.ov_types.proofs.FirstLemmas.{contains_at}
 use Rattle.route_targets.specs.Numbers.{circuit_instance_of, circuit_label_of, hop_instance_of, left_circuit_of, port_label_of, right_circuit_of}
 use Rattle.config_types.specs.declared.config.Network.{Network}
 use Rattle.config_types.specs.declared.topology.Node.{Node}
-use Rattle.run_ties.specs.ConfigCheck.Checked.{Checked}
+use Rattle.schedule_script.specs.ConfigCheck.Checked.{Checked}
 use Rattle.reach_plain.specs.ChainExpand.Expansion.{expansion}
 use Rattle.transform_forwarding_laws.specs.AclCompile.Oriented.{ascending}
 use Rattle.node_laws.specs.NodeModel.Agent.{needed_by}

@@ -27,8 +27,8 @@ use Rattle.config_types.specs.declared.config.Port.{Port}
 use Rattle.config_types.specs.declared.config.Service.{Service}
 use Rattle.config_types.specs.declared.topology.Node.{Node}
 use Rattle.config_types.specs.declared.topology.Topology.{Topology}
-use Rattle.run_ties.specs.ConfigCheck.Checked.{Checked}
-use Rattle.run_ties.specs.ConfigCheck.Sentences.{NamesEnds}
+use Rattle.schedule_script.specs.ConfigCheck.Checked.{Checked}
+use Rattle.schedule_script.specs.ConfigCheck.Sentences.{NamesEnds}
 use Rattle.reach_plain.specs.ChainExpand.Expansion.{expansion}
 use Rattle.reach_plain.specs.PolicyRules.Matching.{speaks_both_ways}
 use Rattle.reach_plain.specs.PolicyRules.NumberedRule.{NumberedRule}

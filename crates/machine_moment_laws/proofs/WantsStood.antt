@@ -22,7 +22,7 @@ use Rattle.machine_model.proofs.Twins.{all_to_own, each_weaker}
 use Rattle.machine_laws.specs.Settling.{Fair}
 use Rattle.machine_laws.proofs.Views.{views}
 use Rattle.machine_laws.proofs.Wants.{agent_holds}
-use Rattle.run_ties.specs.Ties.{Ties}
+use Rattle.schedule_script.specs.Ties.{Ties}
 use Rattle.machine_moment_laws.proofs.AgentsStood.{slice_stood, told_stood}
 use Rattle.machine_moment_laws.proofs.ControlsStood.{to_agent, to_peers}
 use Rattle.machine_moment_laws.proofs.SoFar.{AllStood, stood}

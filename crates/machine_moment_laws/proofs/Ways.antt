@@ -18,7 +18,7 @@ use Rattle.route_targets.specs.Forwarding.{Forwarder, attached, looked_up}
 use Rattle.route_targets.specs.Numbers.{circuit_label_of, hop_instance_of, left_circuit_of, port_label_of, right_circuit_of}
 use Rattle.config_types.specs.declared.config.Config.{Config}
 use Rattle.config_types.specs.declared.config.Network.{Network}
-use Rattle.run_ties.specs.Ties.{AreNear, Ties}
+use Rattle.schedule_script.specs.Ties.{AreNear, Ties}
 use Rattle.transform_forwarding_laws.proofs.Blocks.{Holds, not_circuit}
 use Rattle.transform_forwarding_laws.proofs.TransformModel.Prefixes.{port_number}
 use Rattle.node_laws.specs.NodeModel.Members.{Member}

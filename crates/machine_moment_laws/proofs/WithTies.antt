@@ -5,10 +5,10 @@ use Rattle.std.specs.declared.option.Option.{Option}
 use Rattle.std.proofs.Common.{ap, refl, subst, sym, ◌∙◌}
 use Rattle.std.proofs.lemmas.Bool.{true≢false}
 use Rattle.config_types.specs.declared.config.Config.{Config}
-use Rattle.run_ties.specs.Broken.{broken_tie}
-use Rattle.run_ties.specs.Ties.{Ties}
-use Rattle.run_ties.specs.declared.breaking.Tie.{Tie}
-use Rattle.run_ties.proofs.Broken.{broken_iff}
+use Rattle.schedule_script.specs.Broken.{broken_tie}
+use Rattle.schedule_script.specs.Ties.{Ties}
+use Rattle.schedule_script.specs.declared.breaking.Tie.{Tie}
+use Rattle.schedule_script.proofs.Broken.{broken_iff}
 use Rattle.machine_model.specs.Events.{Break, Connect, Deliver, DeliverOctets, Edits, MachineEvent, Lose, Restart, Round, Settle, Show, Trace, next}
 use Rattle.machine_model.specs.Moments.{EditIsValid, EditsAreValid}
 use Rattle.machine_model.specs.Network.{MachineState, start}

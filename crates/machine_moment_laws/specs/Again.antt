@@ -6,7 +6,7 @@ use Rattle.ov_types.specs.declared.numbers.ServiceNo.{ServiceNo}
 use Rattle.ov_types.specs.declared.packet.Outcome.TheVariants.{Delivered}
 use Rattle.ov_types.specs.declared.packet.Packet.{Packet}
 use Rattle.route_targets.specs.Forwarding.{forwarding}
-use Rattle.run_ties.specs.ConfigCheck.Checked.{Checked}
+use Rattle.schedule_script.specs.ConfigCheck.Checked.{Checked}
 use Rattle.reach_plain.specs.Reachability.{reachability}
 use Rattle.hitless_laws.specs.Keeping.{Keep}
 use Rattle.hitless_laws.specs.Ways.{Offers, Track, Way, visited}

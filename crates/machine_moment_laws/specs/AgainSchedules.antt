@@ -7,8 +7,8 @@ use Rattle.ov_types.specs.declared.packet.Outcome.{Outcome}
 use Rattle.ov_types.specs.declared.packet.Outcome.TheVariants.{Delivered}
 use Rattle.ov_types.specs.declared.packet.Packet.{Packet}
 use Rattle.config_types.specs.declared.event.Event.{Event}
-use Rattle.run_ties.specs.ConfigCheck.Checked.{Checked}
-use Rattle.schedule_tied_answers.specs.declared.answer.TiedAnswer.{TiedAnswer}
+use Rattle.schedule_script.specs.ConfigCheck.Checked.{Checked}
+use Rattle.schedule_script.specs.declared.tied_answer.TiedAnswer.{TiedAnswer}
 use Rattle.reach_plain.specs.Reachability.{reachability}
 use Rattle.machine_model.specs.Events.{event_of}
 use Rattle.machine_laws.specs.Refusing.{kept_events}

@@ -22,8 +22,8 @@ use Rattle.ov_types.specs.declared.rows.Attached.{Attached}
 use Rattle.ov_types.specs.declared.rows.Entry.{Entry as RouteEntry}
 use Rattle.route_targets.specs.Numbers.{circuit_instance_of, circuit_label_of, left_circuit_of, right_circuit_of}
 use Rattle.config_types.specs.declared.topology.Node.{Node}
-use Rattle.run_ties.specs.ConfigCheck.Checked.{Checked}
-use Rattle.run_ties.specs.ConfigCheck.Finding.{node_named}
+use Rattle.schedule_script.specs.ConfigCheck.Checked.{Checked}
+use Rattle.schedule_script.specs.ConfigCheck.Finding.{node_named}
 use Rattle.transform_forwarding_laws.specs.TransformModel.Compiled.{route_of}
 use Rattle.transform_forwarding_laws.specs.TransformModel.Objects.{low_objects}
 use Rattle.node_laws.specs.NodeModel.Agent as agent

@@ -14,8 +14,8 @@ use Rattle.config_types.specs.declared.edit.Edit.TheVariants.{Delete, Put}
 use Rattle.config_types.specs.declared.edit.Object.{Object}
 use Rattle.config_types.specs.declared.edit.Object.TheVariants as Objects
 use Rattle.config_types.specs.declared.edit.ObjectKind.{ObjectKind}
-use Rattle.run_ties.specs.ConfigCheck.Checked.{Checked}
-use Rattle.run_ties.specs.ConfigCheck.Edits.{edit_fault, edited}
+use Rattle.schedule_script.specs.ConfigCheck.Checked.{Checked}
+use Rattle.schedule_script.specs.ConfigCheck.Edits.{edit_fault, edited}
 use Rattle.reach_plain.specs.Reachability.{reachability}
 use Rattle.hitless_laws.specs.Hands.{KeepsInHand}
 use Rattle.hitless_laws.specs.Keeping.{Delivers, IsHitless, Keep, OfferAlike}

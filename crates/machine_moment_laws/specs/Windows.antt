@@ -2,7 +2,7 @@
 -- the configurations that it leads through.
 use Rattle.std.specs.Prelude.{◌≡◌, ◌≤◌, ℕ, List, [], ◌∷◌, ◌++◌, Option, Some, None, length, true}
 use Rattle.std.specs.List.{AllByRecursion}
-use Rattle.run_ties.specs.ConfigCheck.Checked.{Checked}
+use Rattle.schedule_script.specs.ConfigCheck.Checked.{Checked}
 use Rattle.machine_model.specs.Events.{MachineEvent, Edits, Lose, Restart, Break, after, next}
 use Rattle.machine_model.specs.Moments.{ArePositive, EditsAreValid}
 use Rattle.machine_model.specs.Network.{MachineState, start}

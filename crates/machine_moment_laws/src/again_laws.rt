@@ -5,7 +5,7 @@ ghost use Rattle.std.specs.Prelude.{List, IsTrue};
 ghost use Rattle.std.specs.List.{list_all};
 ghost use Rattle.config_types.specs.Form.{has_event_form};
 ghost use Rattle.config_types.specs.declared.event.Event.{Event};
-ghost use Rattle.run_ties.specs.ConfigCheck.Checked.{Checked};
+ghost use Rattle.schedule_script.specs.ConfigCheck.Checked.{Checked};
 ghost use Rattle.machine_model.specs.Setup.{opening};
 ghost use Rattle.machine_laws.specs.Headline.{IsWritten};
 ghost use Rattle.schedule_laws.specs.Runs.{answers};

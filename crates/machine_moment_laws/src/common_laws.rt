@@ -3,7 +3,7 @@
 
 ghost use Rattle.std.specs.Prelude.{List, ◌∷◌};
 ghost use Rattle.ov_types.specs.declared.prefix.Addr.{Addr};
-ghost use Rattle.run_ties.specs.ConfigCheck.Checked.{Checked};
+ghost use Rattle.schedule_script.specs.ConfigCheck.Checked.{Checked};
 ghost use Rattle.node_laws.specs.NodeModel.Members.{Member};
 ghost use Rattle.machine_model.specs.Setup.{opening};
 ghost use Rattle.machine_laws.specs.Compiled.{agent_rows};

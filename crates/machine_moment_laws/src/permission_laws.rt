@@ -11,7 +11,7 @@ ghost use Rattle.ov_types.specs.declared.packet.Packet.{Packet};
 ghost use Rattle.config_types.specs.Form.{has_event_form};
 ghost use Rattle.config_types.specs.declared.event.Event.{Event};
 ghost use Rattle.reach_plain.specs.Reachability.{reachability};
-ghost use Rattle.run_ties.specs.ConfigCheck.Checked.{Checked};
+ghost use Rattle.schedule_script.specs.ConfigCheck.Checked.{Checked};
 ghost use Rattle.machine_model.specs.Setup.{opening};
 ghost use Rattle.machine_laws.specs.Headline.{IsWritten};
 ghost use Rattle.machine_laws.specs.Refusing.{AtMomentsWithTies};

@@ -10,21 +10,21 @@ use Rattle.config_check.specs.Edits.{edit_fault}
 use Rattle.config_check.specs.declared.edits.EditFault.{EditFault}
 use Rattle.config_types.specs.declared.edit.Edit.{Edit}
 use Rattle.config_types.specs.declared.event.Event.TheVariants as event
-use Rattle.run_ties.specs.Broken.{broken_tie}
-use Rattle.run_ties.specs.Kept.{AreAlike, Kept, ties_in}
-use Rattle.run_ties.specs.Tied.{tie_fault, tied_fault}
-use Rattle.run_ties.specs.Ties.{Ties}
-use Rattle.run_ties.specs.Tying.{joined}
-use Rattle.run_ties.specs.declared.breaking.Tie.{Tie}
-use Rattle.run_ties.specs.declared.edits.TiedFault.{TiedFault}
-use Rattle.run_ties.specs.declared.edits.TiedFault.TheVariants as faults
+use Rattle.schedule_script.specs.Broken.{broken_tie}
+use Rattle.schedule_script.specs.Kept.{AreAlike, Kept, ties_in}
+use Rattle.schedule_script.specs.Tied.{tie_fault, tied_fault}
+use Rattle.schedule_script.specs.Ties.{Ties}
+use Rattle.schedule_script.specs.Tying.{joined}
+use Rattle.schedule_script.specs.declared.breaking.Tie.{Tie}
+use Rattle.schedule_script.specs.declared.edits.TiedFault.{TiedFault}
+use Rattle.schedule_script.specs.declared.edits.TiedFault.TheVariants as faults
 use Rattle.running_laws.specs.MachineLaws.Running.{ties_with}
 use Rattle.running_nodes.specs.MachineModel.Events.{edit_answer}
 use Rattle.running_nodes.specs.MachineModel.Setup.{edited_without, moves, opening}
 use Rattle.running_nodes.specs.RunningModel.Seats.{Configuring, Seat, Who, seat}
 use Rattle.running_laws.specs.Editing.{MakesEdit}
 use Rattle.schedule_script.specs.declared.answer.Answer.TheVariants.{Did, EditRefused}
-use Rattle.schedule_tied_answers.specs.declared.answer.TiedAnswer.TheVariants.{Answered, EditTied}
+use Rattle.schedule_script.specs.declared.tied_answer.TiedAnswer.TheVariants.{Answered, EditTied}
 use Rattle.machine_moment_laws.specs.ScheduleLaws.Runs.{broken_by}
 use Rattle.net_machine.specs.declared.ends.SessionEnds.{SessionEnds}
 use Rattle.net_machine.specs.declared.tying.Found.{Found}

@@ -10,10 +10,10 @@ use Rattle.config_types.specs.declared.event.Event.TheVariants.{Break, Connect, 
 use Rattle.config_types.specs.declared.event.Event.TheVariants.{Round, Settle, Show, Trace}
 use Rattle.config_types.specs.Form.{has_event_form}
 use Rattle.config_check.specs.Checked.{Checked}
-use Rattle.run_ties.specs.Kept.{AreAlike, Kept, ties_in}
-use Rattle.run_ties.specs.Ties.{Ties}
-use Rattle.run_ties.specs.Tying.{ties_of}
-use Rattle.run_ties.proofs.Alike.{alike_is_one}
+use Rattle.schedule_script.specs.Kept.{AreAlike, Kept, ties_in}
+use Rattle.schedule_script.specs.Ties.{Ties}
+use Rattle.schedule_script.specs.Tying.{ties_of}
+use Rattle.schedule_script.proofs.Alike.{alike_is_one}
 use Rattle.running_laws.specs.MachineLaws.Headline.{IsWritten}
 use Rattle.running_laws.specs.MachineLaws.Refusing.{TiedNetwork, kept_events, next_tied, tied_start}
 use Rattle.running_laws.proofs.MachineLaws.Refused.{keeps_what_is_not_refused}
@@ -29,7 +29,7 @@ use Rattle.running_laws.proofs.Moments.{moment_sessions}
 use Rattle.running_nodes.specs.RunningModel.Steps.{fresh_seat}
 use Rattle.running_laws.proofs.Given.{given}
 use Rattle.running_laws.proofs.Started.{fresh_seats_stand}
-use Rattle.schedule_tied_answers.specs.declared.answer.TiedAnswer.{TiedAnswer}
+use Rattle.schedule_script.specs.declared.tied_answer.TiedAnswer.{TiedAnswer}
 use Rattle.machine_moment_laws.specs.ScheduleLaws.TiedCompiled.{EndsAtOnce, IsAsCompiled}
 use Rattle.machine_moment_laws.specs.ScheduleLaws.Isolated.{DeliversSoFar, DeliversTied}
 use Rattle.machine_moment_laws.specs.RevocationSchedules.{RevokedSoFar}

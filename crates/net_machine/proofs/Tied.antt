@@ -9,9 +9,9 @@ use Rattle.config_types.specs.declared.event.Event.TheVariants as written
 use Rattle.config_check.specs.Checked.{Checked}
 use Rattle.config_check.specs.Edits.{edit_fault}
 use Rattle.config_check.specs.declared.edits.EditFault.{EditFault}
-use Rattle.run_ties.specs.Kept.{AreAlike, Kept, ties_in}
-use Rattle.run_ties.specs.Ties.{Ties}
-use Rattle.run_ties.specs.declared.breaking.Tie.{Tie}
+use Rattle.schedule_script.specs.Kept.{AreAlike, Kept, ties_in}
+use Rattle.schedule_script.specs.Ties.{Ties}
+use Rattle.schedule_script.specs.declared.breaking.Tie.{Tie}
 use Rattle.running_laws.specs.MachineLaws.Refusing.{TiedNetwork, next_tied}
 use Rattle.running_laws.specs.MachineLaws.Running.{ties_next, ties_with}
 use Rattle.running_nodes.specs.MachineModel.Events.{MachineEvent, answer_to, event_of, next}
@@ -19,8 +19,8 @@ use Rattle.running_nodes.specs.MachineModel.Setup.{Setup, checked, edited_withou
 use Rattle.running_nodes.specs.RunningModel.Seats.{Seat}
 use Rattle.running_nodes.specs.RunningModel.Stands.{StandsFor, message_size}
 use Rattle.running_laws.specs.Moments.{IsMoment}
-use Rattle.schedule_tied_answers.specs.declared.answer.TiedAnswer.{TiedAnswer}
-use Rattle.schedule_tied_answers.specs.declared.answer.TiedAnswer.TheVariants.{Answered, EditTied}
+use Rattle.schedule_script.specs.declared.tied_answer.TiedAnswer.{TiedAnswer}
+use Rattle.schedule_script.specs.declared.tied_answer.TiedAnswer.TheVariants.{Answered, EditTied}
 use Rattle.machine_moment_laws.specs.ScheduleLaws.Runs.{answer_tied, broken_by, tie_broken, unless_tied}
 use Rattle.machine_moment_laws.proofs.ScheduleLaws.Kept.{refused_is}
 use Rattle.net_machine.specs.declared.ends.SessionEnds.{SessionEnds}

@@ -5,8 +5,8 @@ use Rattle.config_check.specs.Checked.{Checked}
 use Rattle.config_check.specs.contracts.valid.Valid as valid
 use Rattle.config_types.specs.declared.event.Event.{Event}
 use Rattle.config_types.specs.contracts.event.Event as events
-use Rattle.run_ties.specs.Kept.{Kept}
-use Rattle.run_ties.specs.contracts.kept.Ties as ties
+use Rattle.schedule_script.specs.Kept.{Kept}
+use Rattle.schedule_script.specs.contracts.kept.Ties as ties
 use Rattle.running_nodes.specs.RunningModel.Seats.{Seat}
 use Rattle.running_nodes.specs.Codes.{coded_seat}
 use Rattle.net_machine.specs.NetState.{NetState}

@@ -2,7 +2,7 @@
 use Rattle.std.specs.Prelude.{List, Bool}
 use Rattle.config_check.specs.Checked.{Checked}
 use Rattle.config_types.specs.declared.event.Event.{Event}
-use Rattle.run_ties.specs.Kept.{Kept}
+use Rattle.schedule_script.specs.Kept.{Kept}
 use Rattle.running_nodes.specs.RunningModel.Seats.{Seat}
 
 -- the configuration that it began with, the ties of its configurations so far, the events that it took, its nodes with

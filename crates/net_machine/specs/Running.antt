@@ -4,7 +4,7 @@ use Rattle.std.specs.List.{list_all}
 use Rattle.config_check.specs.Checked.{Checked}
 use Rattle.config_types.specs.Form.{has_event_form}
 use Rattle.config_types.specs.declared.event.Event.{Event}
-use Rattle.run_ties.specs.Kept.{AreAlike, Kept, ties_in}
+use Rattle.schedule_script.specs.Kept.{AreAlike, Kept, ties_in}
 use Rattle.running_laws.specs.MachineLaws.Headline.{IsWritten}
 use Rattle.running_nodes.specs.MachineModel.Setup.{checked}
 use Rattle.running_nodes.specs.MachineModel.Setup.{opening as opening_setup}

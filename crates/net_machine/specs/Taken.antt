@@ -2,7 +2,7 @@
 use Rattle.std.specs.Prelude.{◌≡◌, List, false}
 use Rattle.config_check.specs.Checked.{Checked}
 use Rattle.config_types.specs.declared.event.Event.{Event}
-use Rattle.run_ties.specs.Kept.{AreAlike, ties_in}
+use Rattle.schedule_script.specs.Kept.{AreAlike, ties_in}
 use Rattle.running_nodes.specs.RunningModel.Stands.{StandsFor}
 use Rattle.machine_moment_laws.specs.ScheduleLaws.Runs.{tied_moment}
 use Rattle.net_machine.specs.NetState.{NetState}

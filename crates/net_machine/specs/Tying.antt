@@ -8,15 +8,15 @@ use Rattle.config_check.specs.Edits.{edited as edit_made}
 use Rattle.config_types.specs.declared.event.Event.{Event}
 use Rattle.config_types.specs.declared.edit.Edit.{Edit}
 use Rattle.config_types.specs.declared.event.Event.TheVariants as event
-use Rattle.run_ties.specs.Kept.{AreAlike, Kept, ties_in}
-use Rattle.run_ties.specs.Ties.{Ties}
-use Rattle.run_ties.specs.declared.breaking.Tie.{Tie}
+use Rattle.schedule_script.specs.Kept.{AreAlike, Kept, ties_in}
+use Rattle.schedule_script.specs.Ties.{Ties}
+use Rattle.schedule_script.specs.declared.breaking.Tie.{Tie}
 use Rattle.running_laws.specs.MachineLaws.Running.{ties_with}
 use Rattle.running_nodes.specs.MachineModel.Setup.{Move, edited, moves, opening}
 use Rattle.running_nodes.specs.RunningModel.Seats.{Configuring, Seat, seat}
 use Rattle.schedule_script.specs.declared.answer.Answer.TheVariants.{Did}
-use Rattle.schedule_tied_answers.specs.declared.answer.TiedAnswer.{TiedAnswer}
-use Rattle.schedule_tied_answers.specs.declared.answer.TiedAnswer.TheVariants.{Answered, EditTied}
+use Rattle.schedule_script.specs.declared.tied_answer.TiedAnswer.{TiedAnswer}
+use Rattle.schedule_script.specs.declared.tied_answer.TiedAnswer.TheVariants.{Answered, EditTied}
 use Rattle.machine_moment_laws.specs.ScheduleLaws.Runs.{broken_by}
 use Rattle.net_machine.specs.declared.ends.SessionEnds.{SessionEnds}
 use Rattle.net_machine.specs.declared.editing.Moved.{Moved}

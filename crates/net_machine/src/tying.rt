@@ -9,7 +9,7 @@ ghost use Rattle.config_types.specs.Form.{has_event_form};
 ghost use Rattle.config_types.specs.declared.event.Event.TheVariants as written;
 ghost use Rattle.running_nodes.specs.RunningModel.Seats.{Configuring, seat};
 ghost use Rattle.running_laws.specs.Editing.{MakesEdit};
-ghost use Rattle.schedule_tied_answers.specs.Answers.{OfAnswer};
+ghost use Rattle.schedule_script.specs.Answers.{OfAnswer};
 ghost use Rattle.running_nodes.specs.MachineModel.Setup.{moves};
 ghost use Rattle.net_machine.specs.Moving.{CanHappen, CanMoveIf};
 ghost use Rattle.net_machine.specs.Seating.{AreLong, AreSeated, IsConfigured};
@@ -22,10 +22,8 @@ use crate::order::order_of;
 use config_check::{EditFault, Valid};
 use config_types::{Edit, Event};
 use ov_types::NoMemory;
-use run_ties::{Tie, TiedFault, TiedRefusal, Ties, apply_tied_edit};
 use running_nodes::Nodes;
-use schedule_script::Answer;
-use schedule_tied_answers::TiedAnswer;
+use schedule_script::{Answer, Tie, TiedAnswer, TiedFault, TiedRefusal, Ties, apply_tied_edit};
 use std::alloc::Global;
 
 /// What is found of an edit.

@@ -2,15 +2,15 @@
 use Rattle.std.specs.Prelude.{ℕ, Bool, List, [], ◌∷◌, ◌++◌, codes, decimal, if◌then◌else◌, ⊤}
 use Rattle.config_types.specs.declared.event.Event.{Event}
 use Rattle.config_types.specs.declared.event.Event.TheVariants.{Show}
-use Rattle.schedule_tied_answers.specs.RunTies.Texts.{tie_text}
+use Rattle.schedule_script.specs.Texts.{tie_text}
 use Rattle.ov_types.specs.declared.rows.NodeRows.{NodeRows}
 use Rattle.report.specs.Outcomes.{outcome_line}
 use Rattle.report.specs.Refusals.{edit_fault_text}
 use Rattle.report.specs.Rows.{node_lines}
 use Rattle.schedule_script.specs.declared.answer.Answer.{Answer}
 use Rattle.schedule_script.specs.declared.answer.Answer.TheVariants.{Did, Idle, EditRefused, Rounds, Shown, Traced}
-use Rattle.schedule_tied_answers.specs.declared.answer.TiedAnswer.{TiedAnswer}
-use Rattle.schedule_tied_answers.specs.declared.answer.TiedAnswer.TheVariants.{Answered, EditTied}
+use Rattle.schedule_script.specs.declared.tied_answer.TiedAnswer.{TiedAnswer}
+use Rattle.schedule_script.specs.declared.tied_answer.TiedAnswer.TheVariants.{Answered, EditTied}
 
 abbrev pub settled_text : Bool → List ℕ
 settled_text settled = if settled then codes "settled" else codes "unsettled"

@@ -1,7 +1,7 @@
 //! The lines of answers.
 ghost use Rattle.std.specs.Prelude.{◌≡◌, ◌++◌, OnOk, OnErr};
 ghost use Rattle.report.specs.Answers.{IsAnswerTo, answer_lines, settled_text, shown_lines, tied_answer_lines};
-ghost use Rattle.schedule_tied_answers.specs.Answers.{OfAnswer};
+ghost use Rattle.schedule_script.specs.Answers.{OfAnswer};
 
 use crate::lined::LinesOf;
 use crate::outcomes::OutcomeLines;
@@ -9,8 +9,7 @@ use crate::refusals::EditFaultText;
 use crate::rows::node_lines;
 use ov_io::TextOut;
 use ov_types::{Name, NoMemory, NodeRows};
-use schedule_script::{Answer, Event};
-use schedule_tied_answers::TiedAnswer;
+use schedule_script::{Answer, Event, TiedAnswer};
 use std::alloc::Global;
 
 fn settled_text(settled: bool) -> &'static str

@@ -15,7 +15,7 @@ use Rattle.config_types.specs.declared.event.Event.{Event}
 use Rattle.config_types.specs.declared.event.Event.TheVariants as written
 use Rattle.reach_plain.specs.Reachability.{reachability}
 use Rattle.route_targets.specs.Forwarding.{forwarding}
-use Rattle.run_ties.specs.declared.breaking.Tie.{Tie}
+use Rattle.schedule_script.specs.declared.breaking.Tie.{Tie}
 use Rattle.schedule_script.specs.declared.answer.Answer.TheVariants.{Did, Idle, Shown, Traced}
 use Rattle.net_machine.specs.MachineLaws.Refusing.{TiedNetwork, after_tied, next_tied, tied_start}
 use Rattle.machine_model.specs.Session.{Session}
@@ -24,8 +24,8 @@ use Rattle.machine_model.specs.Setup.{checked}
 use Rattle.machine_model.specs.Steps.{in_flight, is_broken, may_connect, session_of}
 use Rattle.machine_model.specs.Events.{edit_answer, event_of, forwarders, is_node, next, shown, unless}
 use Rattle.net_machine.specs.RunningModel.Stands.{message_size}
-use Rattle.schedule_tied_answers.specs.declared.answer.TiedAnswer.{TiedAnswer}
-use Rattle.schedule_tied_answers.specs.declared.answer.TiedAnswer.TheVariants.{Answered}
+use Rattle.schedule_script.specs.declared.tied_answer.TiedAnswer.{TiedAnswer}
+use Rattle.schedule_script.specs.declared.tied_answer.TiedAnswer.TheVariants.{Answered}
 use Rattle.net_machine.specs.ScheduleLaws.Runs.{answer_tied, answers, run_tied, tie_broken, unless_tied}
 use Rattle.run_answers.specs.declared.tally.Tally.{Tally}
 use Rattle.run_answers.specs.Counts.{CountsAnswers, is_delivery, is_trace, rounds_of}

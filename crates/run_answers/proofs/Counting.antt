@@ -12,8 +12,8 @@ use Rattle.net_machine.specs.MachineLaws.Refusing.{TiedNetwork, after_tied, next
 use Rattle.machine_model.specs.Events.{event_of, forwarders, next}
 use Rattle.machine_model.specs.Setup.{checked}
 use Rattle.net_machine.specs.RunningModel.Stands.{message_size}
-use Rattle.schedule_tied_answers.specs.declared.answer.TiedAnswer.{TiedAnswer}
-use Rattle.schedule_tied_answers.specs.declared.answer.TiedAnswer.TheVariants.{Answered, EditTied}
+use Rattle.schedule_script.specs.declared.tied_answer.TiedAnswer.{TiedAnswer}
+use Rattle.schedule_script.specs.declared.tied_answer.TiedAnswer.TheVariants.{Answered, EditTied}
 use Rattle.net_machine.specs.ScheduleLaws.Runs.{answer_tied, tied_moment}
 use Rattle.net_machine.proofs.ScheduleLaws.Kept.{tied_more}
 use Rattle.run_answers.specs.declared.tally.Tally.{Tally}

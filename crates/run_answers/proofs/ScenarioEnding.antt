@@ -16,7 +16,7 @@ use Rattle.net_machine.specs.NetState.{NetState}
 use Rattle.net_machine.specs.RunningModel.Stands.{StandsFor}
 use Rattle.net_machine.specs.ScheduleLaws.Runs.{tied_moment}
 use Rattle.net_machine.proofs.ScheduleLaws.Placed.{as_compiled, isolated}
-use Rattle.run_ties.specs.Kept.{AreAlike, ties_in}
+use Rattle.schedule_script.specs.Kept.{AreAlike, ties_in}
 use Rattle.net_machine.proofs.MachineMomentLaws.KeptPlaced.{uninterrupted}
 use Rattle.net_machine.proofs.MachineMomentLaws.AgainPlaced.{again}
 use Rattle.net_machine.proofs.MachineMomentLaws.PermissionPlaced.{permitted}

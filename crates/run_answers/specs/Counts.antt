@@ -11,8 +11,8 @@ use Rattle.config_types.specs.declared.event.Event.{Event}
 use Rattle.config_types.specs.declared.event.Event.TheVariants.{Trace}
 use Rattle.reach_plain.specs.Reachability.{reachability}
 use Rattle.schedule_script.specs.declared.answer.Answer.TheVariants.{Rounds, Traced}
-use Rattle.schedule_tied_answers.specs.declared.answer.TiedAnswer.{TiedAnswer}
-use Rattle.schedule_tied_answers.specs.declared.answer.TiedAnswer.TheVariants.{Answered}
+use Rattle.schedule_script.specs.declared.tied_answer.TiedAnswer.{TiedAnswer}
+use Rattle.schedule_script.specs.declared.tied_answer.TiedAnswer.TheVariants.{Answered}
 use Rattle.net_machine.specs.ScheduleLaws.Isolated.{StandsAt}
 use Rattle.net_machine.specs.ScheduleLaws.Runs.{answers, tied_moment}
 use Rattle.run_answers.specs.declared.tally.Tally.{Tally}

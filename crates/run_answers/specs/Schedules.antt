@@ -3,7 +3,7 @@ use Rattle.std.specs.Prelude.{ℕ, ◌+◌, List, [], ◌∷◌, ◌++◌}
 use Rattle.config_types.specs.declared.event.Event.{Event}
 use Rattle.config_check.specs.Checked.{Checked}
 use Rattle.report.specs.Answers.{tied_answer_lines}
-use Rattle.schedule_tied_answers.specs.declared.answer.TiedAnswer.{TiedAnswer}
+use Rattle.schedule_script.specs.declared.tied_answer.TiedAnswer.{TiedAnswer}
 use Rattle.net_machine.specs.ScheduleLaws.Runs.{answers}
 
 -- the lines of events and their answers, the first with a number

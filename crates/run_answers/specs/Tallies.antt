@@ -17,8 +17,8 @@ use Rattle.net_machine.specs.MachineLaws.Refusing.{TiedNetwork, next_tied, tied_
 use Rattle.machine_model.specs.Events.{event_of}
 use Rattle.machine_model.specs.Setup.{checked}
 use Rattle.net_machine.specs.RunningModel.Stands.{message_size}
-use Rattle.schedule_tied_answers.specs.declared.answer.TiedAnswer.{TiedAnswer}
-use Rattle.schedule_tied_answers.specs.declared.answer.TiedAnswer.TheVariants.{Answered}
+use Rattle.schedule_script.specs.declared.tied_answer.TiedAnswer.{TiedAnswer}
+use Rattle.schedule_script.specs.declared.tied_answer.TiedAnswer.TheVariants.{Answered}
 use Rattle.net_machine.specs.ScheduleLaws.Runs.{answer_tied}
 use Rattle.run_answers.specs.declared.tally.Tally.{Tally}
 

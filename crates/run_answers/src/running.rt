@@ -5,7 +5,7 @@ ghost use Rattle.std.specs.Io.KnownBytes.{Appends};
 ghost use Rattle.serde_json.specs.View.{view};
 ghost use Rattle.config_model.specs.Event.{run_at};
 ghost use Rattle.config_types.specs.Form.{has_event_form};
-ghost use Rattle.run_ties.specs.Kept.{AreAlike, ties_in};
+ghost use Rattle.schedule_script.specs.Kept.{AreAlike, ties_in};
 ghost use Rattle.net_machine.specs.MachineLaws.Headline.{IsWritten};
 ghost use Rattle.net_machine.specs.RunningModel.Stands.{StandsFor};
 ghost use Rattle.machine_model.specs.Events.{event_of};

@@ -8,8 +8,7 @@ use config_check::Valid;
 use config_types::Event;
 use ov_types::{Outcome, Packet};
 use reach_plain::reach;
-use schedule_script::Answer;
-use schedule_tied_answers::TiedAnswer;
+use schedule_script::{Answer, TiedAnswer};
 
 /// What the answers of a schedule were counted to be.
 #[derive(Clone, Copy, PartialEq, Eq)]

@@ -2,7 +2,7 @@
 ghost use Rattle.std.specs.Prelude.{◌≡◌, ◌≤◌, ◌<◌, ◌^◌, ◌+◌, ◌++◌, ◌∷◌, [], length, false, IfOk, OnOk, IsTrue};
 ghost use Rattle.std.specs.List.{list_all};
 ghost use Rattle.config_types.specs.Form.{has_event_form};
-ghost use Rattle.run_ties.specs.Kept.{AreAlike, ties_in};
+ghost use Rattle.schedule_script.specs.Kept.{AreAlike, ties_in};
 ghost use Rattle.net_machine.specs.RunningModel.Stands.{StandsFor};
 ghost use Rattle.machine_model.specs.Events.{event_of};
 ghost use Rattle.machine_model.specs.Setup.{checked};

@@ -18,7 +18,7 @@ use Rattle.schedule_laws.proofs.AsCompiled.{edits_of_form}
 use Rattle.machine_laws.specs.Refusing.{TiedNetwork, after_tied, breaks, kept_events, next_tied, refuses, tied_start}
 use Rattle.machine_laws.specs.Running.{ties_next}
 use Rattle.machine_laws.proofs.Refused.{goes_on, keeps_what_is_not_refused}
-use Rattle.run_ties.specs.Ties.{Ties}
+use Rattle.schedule_script.specs.Ties.{Ties}
 use Rattle.schedule_laws.specs.Runs.{broken_by, tie_broken, tied_moment}
 
 -- ---- what is refused is answered with a tie

@@ -15,7 +15,7 @@ use Rattle.config_types.specs.declared.edit.Edit.{Edit}
 use Rattle.config_types.specs.declared.event.Event.{Event as Written}
 use Rattle.config_types.specs.declared.event.Event.TheVariants as written
 use Rattle.config_check.specs.Checked.{Checked}
-use Rattle.run_ties.specs.declared.breaking.Tie.{Tie}
+use Rattle.schedule_script.specs.declared.breaking.Tie.{Tie}
 use Rattle.machine_laws.specs.Moments.{SettleSettles, SettlesInTime}
 use Rattle.machine_laws.specs.Headline.{IsWritten}
 use Rattle.machine_laws.proofs.Written.{written_rounds_settle, written_settle_settles}
@@ -30,13 +30,13 @@ use Rattle.schedule_script.specs.declared.answer.Answer.TheVariants.{Rounds, Tra
 use Rattle.schedule_laws.specs.Compiled.{AnswersCompiled}
 use Rattle.schedule_laws.specs.Ends.{SettlesAtOnce}
 use Rattle.schedule_laws.proofs.AsCompiled.{compiled_at}
-use Rattle.schedule_tied_answers.specs.Answers.{OfAnswer}
-use Rattle.schedule_tied_answers.specs.declared.answer.TiedAnswer.TheVariants.{Answered}
+use Rattle.schedule_script.specs.Answers.{OfAnswer}
+use Rattle.schedule_script.specs.declared.tied_answer.TiedAnswer.TheVariants.{Answered}
 use Rattle.machine_laws.specs.TiedMoments.{AreJoined}
 use Rattle.machine_laws.specs.Refusing.{TiedNetwork, next_tied}
 use Rattle.machine_laws.proofs.Relating.{in_some, near_by, stands_port, stood}
 use Rattle.machine_laws.specs.Relating.{StandsIn}
-use Rattle.run_ties.specs.Ties.{HasPort}
+use Rattle.schedule_script.specs.Ties.{HasPort}
 use Rattle.machine_laws.proofs.Refused.{among_with_ties, isolated_with_ties, joined_with_ties}
 use Rattle.schedule_laws.specs.TiedCompiled.{EndsAtOnce, IsAsCompiled}
 use Rattle.schedule_laws.specs.Isolated.{DeliversRelated, DeliversSoFar, DeliversTied, OfDelivery, StayJoined, StayRelated}

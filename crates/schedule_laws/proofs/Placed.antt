@@ -12,7 +12,7 @@ use Rattle.machine_laws.specs.MachineModel.Events.{event_of}
 use Rattle.machine_laws.specs.MachineModel.Setup.{opening}
 use Rattle.running_model.specs.Stands.{message_size}
 use Rattle.schedule_laws.proofs.AsCompiled.{forms_of_front}
-use Rattle.schedule_tied_answers.specs.declared.answer.TiedAnswer.{TiedAnswer}
+use Rattle.schedule_script.specs.declared.tied_answer.TiedAnswer.{TiedAnswer}
 use Rattle.machine_laws.specs.Refusing.{TiedNetwork, after_tied, next_tied, tied_start}
 use Rattle.schedule_laws.specs.TiedCompiled.{AreAsCompiled, EndsAtOnce, IsAsCompiled}
 use Rattle.schedule_laws.specs.Isolated.{DeliversRelated, DeliversSoFar, IsIsolated, StandsAt, StaysAmongRelated}

@@ -8,10 +8,10 @@ use Rattle.config_types.specs.declared.config.Config.{Config}
 use Rattle.config_types.specs.declared.event.Event.{Event}
 use Rattle.config_types.specs.declared.event.Event.TheVariants.{Trace}
 use Rattle.config_check.specs.Checked.{Checked}
-use Rattle.run_ties.specs.Ties.{HasPort, HasRelated, Ties}
+use Rattle.schedule_script.specs.Ties.{HasPort, HasRelated, Ties}
 use Rattle.schedule_script.specs.declared.answer.Answer.TheVariants.{Traced}
-use Rattle.schedule_tied_answers.specs.declared.answer.TiedAnswer.{TiedAnswer}
-use Rattle.schedule_tied_answers.specs.declared.answer.TiedAnswer.TheVariants.{Answered}
+use Rattle.schedule_script.specs.declared.tied_answer.TiedAnswer.{TiedAnswer}
+use Rattle.schedule_script.specs.declared.tied_answer.TiedAnswer.TheVariants.{Answered}
 use Rattle.machine_laws.specs.TiedMoments.{AreJoined}
 use Rattle.machine_laws.specs.Relating.{AreRelatedIn, StandsIn, StoodRelated}
 use Rattle.machine_laws.specs.Stood.{InSome, WereJoined}

@@ -5,12 +5,12 @@ use Rattle.std.specs.declared.option.Option.TheVariants.{Some, None}
 use Rattle.config_types.specs.declared.config.Config.{Config}
 use Rattle.config_types.specs.declared.event.Event.{Event as Written}
 use Rattle.config_check.specs.Checked.{Checked}
-use Rattle.run_ties.specs.Broken.{broken_tie}
-use Rattle.run_ties.specs.Ties.{Ties}
-use Rattle.run_ties.specs.declared.breaking.Tie.{Tie}
+use Rattle.schedule_script.specs.Broken.{broken_tie}
+use Rattle.schedule_script.specs.Ties.{Ties}
+use Rattle.schedule_script.specs.declared.breaking.Tie.{Tie}
 use Rattle.schedule_script.specs.declared.answer.Answer.{Answer}
-use Rattle.schedule_tied_answers.specs.declared.answer.TiedAnswer.{TiedAnswer}
-use Rattle.schedule_tied_answers.specs.declared.answer.TiedAnswer.TheVariants.{Answered, EditTied}
+use Rattle.schedule_script.specs.declared.tied_answer.TiedAnswer.{TiedAnswer}
+use Rattle.schedule_script.specs.declared.tied_answer.TiedAnswer.TheVariants.{Answered, EditTied}
 use Rattle.machine_laws.specs.MachineModel.Events.{MachineEvent, Edits, answer_to, event_of}
 use Rattle.machine_laws.specs.MachineModel.Network.{start}
 use Rattle.machine_laws.specs.MachineModel.Session.{Message}

@@ -6,8 +6,8 @@ use Rattle.machine_laws.specs.MachineModel.Setup.{checked}
 use Rattle.machine_laws.specs.MachineModel.Steps.{is_settled}
 use Rattle.schedule_laws.specs.Compiled.{AnswersCompiled}
 use Rattle.schedule_laws.specs.Ends.{SettlesAtOnce}
-use Rattle.schedule_tied_answers.specs.Answers.{OfAnswer}
-use Rattle.schedule_tied_answers.specs.declared.answer.TiedAnswer.{TiedAnswer}
+use Rattle.schedule_script.specs.Answers.{OfAnswer}
+use Rattle.schedule_script.specs.declared.tied_answer.TiedAnswer.{TiedAnswer}
 use Rattle.machine_laws.specs.Refusing.{TiedNetwork}
 use Rattle.schedule_laws.specs.Isolated.{StandsAt}
 use Rattle.schedule_laws.specs.Runs.{tied_moment}

@@ -1,2 +1,10 @@
+pub mod Lists
+pub mod Having
+pub mod OfNodes
+pub mod Growing
+pub mod Broken
+pub mod Adding
+pub mod Alike
+pub mod OfPolicies
 pub mod ConfigCheck
 pub mod ChainExpand

@@ -1,3 +1,11 @@
+pub mod Answers
+pub mod Ties
+pub mod Tying
+pub mod Broken
+pub mod Kept
+pub mod Relating
+pub mod Texts
+pub mod Tied
 pub mod ConfigCheck
 pub mod ConfigTypes
 pub mod ChainExpand

@@ -1,5 +1,5 @@
 use Rattle.std.proofs.Common.{◌≡◌, ◌++◌, [], false}
-use Rattle.run_ties.specs.Kept.{AreAlike, ties_in}
+use Rattle.schedule_script.specs.Kept.{AreAlike, ties_in}
 use Rattle.net_machine.specs.RunningModel.Stands.{StandsFor}
 use Rattle.ov_io.specs.Pieces.{IsOnItsWay}
 use Rattle.net_machine.specs.ScheduleLaws.Runs.{tied_moment}

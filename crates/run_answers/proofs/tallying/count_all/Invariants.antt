@@ -1,5 +1,5 @@
 use Rattle.std.proofs.Common.{◌≡◌, ◌++◌, length, false}
-use Rattle.run_ties.specs.Kept.{AreAlike, ties_in}
+use Rattle.schedule_script.specs.Kept.{AreAlike, ties_in}
 use Rattle.net_machine.specs.RunningModel.Stands.{StandsFor}
 use Rattle.net_machine.specs.ScheduleLaws.Runs.{tied_moment}
 use Rattle.run_answers.specs.Tallies.{tally}

@@ -1,7 +1,7 @@
 use Rattle.std.proofs.Common.{IfOk, map, sym, ◌∙◌, ◌≡◌, ap, subst}
 use Rattle.config_check.specs.Checked.{Checked}
-use Rattle.run_ties.specs.Kept.{AreAlike, ties_in}
-use Rattle.run_ties.specs.Tying.{ties_of}
+use Rattle.schedule_script.specs.Kept.{AreAlike, ties_in}
+use Rattle.schedule_script.specs.Tying.{ties_of}
 use Rattle.running_nodes.specs.MachineModel.Setup.{opening as opening_setup}
 use Rattle.running_nodes.specs.RunningModel.Seats.{whos}
 use Rattle.running_nodes.specs.RunningModel.Steps.{fresh_seat}

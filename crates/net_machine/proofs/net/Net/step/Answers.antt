@@ -1,6 +1,6 @@
 use Rattle.std.proofs.Common.{◌∙◌, ap, subst}
 use Rattle.std.specs.Prelude.{◌≡◌}
-use Rattle.run_ties.specs.Kept.{ties_in}
+use Rattle.schedule_script.specs.Kept.{ties_in}
 use Rattle.running_nodes.specs.MachineModel.Events.{event_of}
 use Rattle.machine_moment_laws.specs.ScheduleLaws.TiedCompiled.{EndsAtOnce, IsAsCompiled}
 use Rattle.machine_moment_laws.specs.ScheduleLaws.Isolated.{DeliversSoFar, DeliversTied}

@@ -1,5 +1,0 @@
-use Rattle.run_ties.proofs.Alike.{few_rules_of}
-use Rattle.run_ties.proofs.joining.rules_of.Goals as goal
-
-pub all_rules-requires : goal.all_rules-requires
-all_rules-requires c = few_rules_of c.args.valid.now.topology c.args.valid.now.config c.config.result.now c.config.ensures.part c.config.ensures.valid

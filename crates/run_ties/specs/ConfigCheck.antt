@@ -1,8 +1,0 @@
--- What is passed on of `config_check`, so that the crates above need not list it.
-pub use Rattle.config_check.specs.Checked
-pub use Rattle.config_check.specs.EditLaws
-pub use Rattle.config_check.specs.Edits
-pub use Rattle.config_check.specs.Finding
-pub use Rattle.config_check.specs.Rules
-pub use Rattle.config_check.specs.Sentences
-pub use Rattle.config_check.specs.declared.edits.EditFault

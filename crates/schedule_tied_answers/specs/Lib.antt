@@ -1,3 +1,0 @@
--- The files of definitions, in the order in which they stand on each other.
-pub mod Answers
-pub mod RunTies
