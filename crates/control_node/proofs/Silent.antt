@@ -13,8 +13,8 @@ use Rattle.node_core.specs.NodeModel.Wants.{wanted_by_agent, wanted_by_peers}
 use Rattle.vpn_tables.specs.Changes.{at_session, named, with_agent, with_nothing, without}
 use Rattle.vpn_tables.specs.Listing.{told_in}
 use Rattle.vpn_tables.proofs.AgentsIndexed.{told_apart}
-use Rattle.vpn_tables.specs.ControlSilentAgentLaws.Quiet.{IsWithoutSilent, PublishesNothing, SameButSilent}
-use Rattle.vpn_tables.proofs.ControlSilentAgentLaws.Quiet.{silent_by_agent, silent_by_peers, told_nothing}
+use Rattle.vpn_tables.specs.NodeLaws.Quiet.{IsWithoutSilent, PublishesNothing, SameButSilent}
+use Rattle.vpn_tables.proofs.NodeLaws.Quiet.{silent_by_agent, silent_by_peers, told_nothing}
 use Rattle.control_marks.specs.Marks.{IsCleanItem, Marks}
 use Rattle.control_node.specs.Ends.{seat, seats}
 use Rattle.control_node.specs.Made.{new_agent}

@@ -4,7 +4,7 @@ ghost use Rattle.item_wire.specs.declared.event.ItemState.TheVariants as ItemSta
 ghost use Rattle.node_core.specs.NodeModel.Step.{nothing};
 ghost use Rattle.vpn_tables.specs.Changes.{without};
 ghost use Rattle.vpn_tables.specs.Listing.{told_in};
-ghost use Rattle.vpn_tables.specs.ControlSilentAgentLaws.Quiet.{PublishesNothing};
+ghost use Rattle.vpn_tables.specs.NodeLaws.Quiet.{PublishesNothing};
 ghost use Rattle.control_node.specs.Places.{IsPlace};
 ghost use Rattle.control_node.specs.Ends.{closed_peer, closed_agent};
 

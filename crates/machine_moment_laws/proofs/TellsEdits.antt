@@ -16,8 +16,8 @@ use Rattle.config_types.specs.declared.topology.Topology.{Topology}
 use Rattle.schedule_script.specs.ConfigCheck.Edits.{edit_fault, edited as checked_edited}
 use Rattle.schedule_script.specs.ConfigCheck.Finding.{node_named}
 use Rattle.schedule_script.specs.ConfigCheck.Rules.{controller_names}
-use Rattle.control_silent_agent_laws.specs.Quiet.{IsWithout, SameButQuiet}
-use Rattle.control_silent_agent_laws.proofs.Quiet.{quiet_by_agent, quiet_by_peers}
+use Rattle.node_laws.specs.Quiet.{IsWithout, SameButQuiet}
+use Rattle.node_laws.proofs.Quiet.{quiet_by_agent, quiet_by_peers}
 use Rattle.node_laws.specs.NodeModel.Agent as agent
 use Rattle.node_laws.specs.NodeModel.Members.{Member}
 use Rattle.node_laws.specs.NodeModel.Paths.{Told}

@@ -13,7 +13,7 @@ use Rattle.node_model.specs.Step.{Post}
 use Rattle.node_model.proofs.Members.{any_in, from_any, in_map, none_some}
 use Rattle.running_nodes.specs.ControlNode.Core.{Core, holdings}
 use Rattle.running_nodes.specs.RunningModel.Controls.{Controls}
-use Rattle.control_silent_agent_laws.specs.Quiet.{SameButQuiet}
+use Rattle.node_laws.specs.Quiet.{SameButQuiet}
 use Rattle.running_nodes.specs.MachineModel.Network.{MachineState, config}
 use Rattle.running_nodes.specs.MachineModel.Setup.{Name, checked}
 use Rattle.running_nodes.proofs.MachineModel.Apart.{NamesApart}

@@ -2,7 +2,7 @@
 ghost use Rattle.std.specs.Prelude.{◌≡◌, false, is_some, option_copied, IfSome};
 ghost use Rattle.running_nodes.specs.ControlNode.Core.{holdings};
 ghost use Rattle.running_nodes.specs.Cores.{present};
-ghost use Rattle.control_silent_agent_laws.specs.Quiet.{SameButQuiet};
+ghost use Rattle.node_laws.specs.Quiet.{SameButQuiet};
 ghost use Rattle.machine_moment_laws.specs.ScheduleLaws.Runs.{tied_moment};
 ghost use Rattle.net_machine.specs.Looking.{held_at, is_control_node};
 

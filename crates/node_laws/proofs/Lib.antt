@@ -7,4 +7,5 @@ pub mod Worked
 pub mod Counting
 pub mod Published
 pub mod Leading
+pub mod Quiet
 pub mod NodeModel

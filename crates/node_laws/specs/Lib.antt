@@ -4,4 +4,5 @@ pub mod Received
 pub mod Labelled
 pub mod Chain
 pub mod Counts
+pub mod Quiet
 pub mod NodeModel

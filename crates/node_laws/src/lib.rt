@@ -3,5 +3,6 @@
 
 pub mod held_laws;
 pub mod premise_laws;
+pub mod quiet_laws;
 pub mod shown_laws;
 pub mod step_laws;

@@ -13,8 +13,8 @@ use Rattle.node_model.specs.Uses.{imports, is_known}
 use Rattle.node_model.specs.Values.{Value}
 use Rattle.vpn_tables.specs.Gathered.{held_keys, in_order, keys_told, up_key}
 use Rattle.vpn_tables.specs.Views.{up_order}
-use Rattle.control_silent_agent_laws.specs.Quiet.{IsWithout, SameButQuiet}
-use Rattle.control_silent_agent_laws.proofs.Quiet.{quiet_by_agent, quiet_by_peers, same_reading, table_same}
+use Rattle.node_laws.specs.Quiet.{IsWithout, SameButQuiet}
+use Rattle.node_laws.proofs.Quiet.{quiet_by_agent, quiet_by_peers, same_reading, table_same}
 use Rattle.rt_constrain.specs.Asking.{asked, asked_for, asked_order, cut}
 use Rattle.rt_constrain.specs.Covering.{covers}
 use Rattle.rt_constrain.specs.Needed.{instance_order, needed, reason}

@@ -29,8 +29,8 @@ use Rattle.running_model.specs.ControlNode.NodeCause.TheVariants as Cause
 use Rattle.running_model.specs.ControlNode.ControlPlan.{ControlPlan}
 use Rattle.running_model.specs.MachineModel.Setup.{Name}
 use Rattle.running_model.specs.MachineModel.Network.{config as named_config}
-use Rattle.control_silent_agent_laws.specs.Quiet.{IsWithout, SameButQuiet}
-use Rattle.control_silent_agent_laws.proofs.Quiet.{quiet_by_agent, quiet_by_peers}
+use Rattle.node_laws.specs.Quiet.{IsWithout, SameButQuiet}
+use Rattle.node_laws.proofs.Quiet.{quiet_by_agent, quiet_by_peers}
 use Rattle.running_model.specs.Controls as controls
 use Rattle.running_model.specs.Controls.{agents_at, controls_of, plan_of, told_at}
 use Rattle.running_model.specs.Seats.{Controlling, name_there, names_of, others_of}

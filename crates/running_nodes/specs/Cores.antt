@@ -9,7 +9,7 @@ use Rattle.running_model.specs.ConfigNode.Core as configuration
 use Rattle.running_model.specs.ControlNode.Agents.{is_retired}
 use Rattle.running_model.specs.ControlNode.Core as control
 use Rattle.agent_node.specs.Core as agent
-use Rattle.control_silent_agent_laws.specs.Quiet.{SameButQuiet}
+use Rattle.node_laws.specs.Quiet.{SameButQuiet}
 use Rattle.running_model.specs.Controls as controls
 use Rattle.running_model.specs.Controls.{controls_of}
 use Rattle.running_model.specs.Seats.{Who, Configuring, Controlling, Forwarding}

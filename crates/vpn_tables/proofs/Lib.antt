@@ -33,4 +33,4 @@ pub mod AgentsIndexed
 pub mod PathsReceived
 pub mod Subnets
 pub mod WithLed
-pub mod ControlSilentAgentLaws
+pub mod NodeLaws

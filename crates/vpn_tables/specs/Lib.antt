@@ -18,4 +18,4 @@ pub mod TouchedKeys
 pub mod Indexed
 pub mod Gathered
 pub mod NodeModel
-pub mod ControlSilentAgentLaws
+pub mod NodeLaws

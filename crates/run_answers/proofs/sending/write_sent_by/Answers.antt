@@ -1,7 +1,7 @@
 use Rattle.std.proofs.Common.{◌++◌, [], OnOk, OnErr, subst, ◌∙◌}
 use Rattle.std.specs.List.{flat_map}
 use Rattle.node_model.specs.Maps.{Map}
-use Rattle.control_silent_agent_laws.proofs.Quiet.{quiet_by_peers}
+use Rattle.node_laws.proofs.Quiet.{quiet_by_peers}
 use Rattle.ov_io.specs.Inputs.{TookFront}
 use Rattle.ov_io.specs.Pieces.{IsOnItsWay}
 use Rattle.run_answers.specs.Constraint.{sent_to}

@@ -2,7 +2,7 @@ use Rattle.std.proofs.Common.{◌+◌, ◌∙◌, ap, subst, suc}
 use Rattle.node_core.specs.NodeModel.Paths.{Holdings}
 use Rattle.vpn_tables.specs.Changes.{without}
 use Rattle.vpn_tables.specs.Listing.{told_in}
-use Rattle.vpn_tables.specs.ControlSilentAgentLaws.Quiet.{PublishesNothing}
+use Rattle.vpn_tables.specs.NodeLaws.Quiet.{PublishesNothing}
 use Rattle.control_node.specs.Ends.{Ends}
 use Rattle.control_node.specs.declared.ends.AgentEnd.{AgentEnd}
 use Rattle.control_node.specs.declared.ends.PeerEnd.{PeerEnd}

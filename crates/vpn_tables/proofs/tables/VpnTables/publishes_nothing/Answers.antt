@@ -13,7 +13,7 @@ use Rattle.path_select.specs.NodeModel.Keys.{Publish}
 use Rattle.path_select.specs.NodeModel.Maps.{as_label}
 use Rattle.path_select.specs.NodeModel.Paths.{Holdings}
 use Rattle.path_select.proofs.NodeModel.Members.{none_some}
-use Rattle.control_silent_agent_laws.specs.Quiet.{PublishesNothing}
+use Rattle.node_laws.specs.Quiet.{PublishesNothing}
 use Rattle.vpn_tables.specs.Listing.{told_in}
 use Rattle.vpn_tables.specs.Indexed.{block_at, if_told, label_at, label_in, label_order}
 use Rattle.vpn_tables.specs.Views.{agent_of}

@@ -1,11 +1,9 @@
 //! What a control node holds of agents that told nothing, or that publish nothing: laws.
-#![tactic(auto)]
-
 ghost use Rattle.std.specs.Prelude.{◌≡◌};
 ghost use Rattle.node_model.specs.Paths.{Holdings, Told};
 ghost use Rattle.node_model.specs.Tables.{rows};
 ghost use Rattle.node_model.specs.Wants.{wanted_by_agent, wanted_by_peers};
-ghost use Rattle.control_silent_agent_laws.specs.Quiet.{SameButQuiet, SameButSilent};
+ghost use Rattle.node_laws.specs.Quiet.{SameButQuiet, SameButSilent};
 
 /// Agents that told nothing add nothing: a control node that holds them besides wants its peers and each agent to have
 /// been told the same as without them, and shows the same rows.

@@ -1,5 +1,5 @@
-use Rattle.control_silent_agent_laws.proofs.Quiet.{quiet_by_agent, quiet_by_peers, quiet_rows}
-use Rattle.control_silent_agent_laws.proofs.agents_that_told_nothing_add_nothing.Goals as goal
+use Rattle.node_laws.proofs.Quiet.{quiet_by_agent, quiet_by_peers, quiet_rows}
+use Rattle.node_laws.proofs.quiet_laws.agents_that_told_nothing_add_nothing.Goals as goal
 
 pub returns-clause-peers : goal.returns-clause-peers
 returns-clause-peers c = quiet_by_peers

@@ -21,7 +21,7 @@ use Rattle.node_model.specs.Wants.{route_entry, rows_of, slice, slice_entry, sub
 use Rattle.node_model.specs.Members.{Member}
 use Rattle.node_model.proofs.Members.{get_member, none_some}
 use Rattle.node_model.proofs.Orders.{key_total}
-use Rattle.control_silent_agent_laws.specs.Quiet.{IsWithout, IsWithoutSilent, PublishesNothing, SameButQuiet, SameButSilent}
+use Rattle.node_laws.specs.Quiet.{IsWithout, IsWithoutSilent, PublishesNothing, SameButQuiet, SameButSilent}
 
 -- ---- an agent that told nothing publishes nothing
 pub told_nothing : (m : Map) → m ≡ empty → PublishesNothing m

@@ -1,5 +1,5 @@
-use Rattle.control_silent_agent_laws.proofs.Quiet.{silent_by_agent, silent_by_peers}
-use Rattle.control_silent_agent_laws.proofs.agents_that_publish_nothing_add_nothing.Goals as goal
+use Rattle.node_laws.proofs.Quiet.{silent_by_agent, silent_by_peers}
+use Rattle.node_laws.proofs.quiet_laws.agents_that_publish_nothing_add_nothing.Goals as goal
 
 pub returns-clause-peers : goal.returns-clause-peers
 returns-clause-peers c = silent_by_peers

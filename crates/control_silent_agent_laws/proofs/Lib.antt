@@ -1,3 +1,0 @@
--- Lemmas, in the order in which they stand on each other.
-pub mod Quiet
-pub mod NodeModel

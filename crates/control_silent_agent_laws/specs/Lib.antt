@@ -1,3 +1,0 @@
--- The files of definitions.
-pub mod Quiet
-pub mod NodeModel
