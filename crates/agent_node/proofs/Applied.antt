@@ -9,9 +9,9 @@ use Rattle.ov_sync.specs.Keyed.{after, changed, map_of}
 use Rattle.ov_types.specs.declared.keys.DownKey.{DownKey}
 use Rattle.ov_types.specs.declared.keys.DownValue.{DownValue}
 use Rattle.item_wire.specs.declared.item.Item.{Item}
-use Rattle.node_items.specs.Told.{AllFit, ChangeFits, IsWritable, change_of, down_of, down_order, down_value}
-use Rattle.node_items.proofs.Changes.{read_fits}
-use Rattle.node_items.proofs.Maps.{changed_fits}
+use Rattle.node_core.specs.Told.{AllFit, ChangeFits, IsWritable, change_of, down_of, down_order, down_value}
+use Rattle.node_core.proofs.Changes.{read_fits}
+use Rattle.node_core.proofs.Maps.{changed_fits}
 use Rattle.node_core.specs.NodeModel.Keys.{of_down}
 use Rattle.node_core.specs.NodeModel.Maps.{Change, Map}
 use Rattle.agent_node.specs.Applying.{changed_by}

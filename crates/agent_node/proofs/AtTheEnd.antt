@@ -11,7 +11,7 @@ use Rattle.ov_link.specs.declared.step.NodeFault.{NodeFault}
 use Rattle.ov_link.specs.declared.step.NodeFault.TheVariants.{NoMemory}
 use Rattle.item_wire.specs.declared.event.ItemCause.{ItemCause}
 use Rattle.item_wire.specs.declared.event.ItemCause.TheVariants.{Ended}
-use Rattle.node_items.proofs.NotEnded.{never_ended_keeping}
+use Rattle.node_core.proofs.NotEnded.{never_ended_keeping}
 use Rattle.node_core.specs.NodeModel.Step.{Post}
 use Rattle.node_core.specs.Whole.{IsWholeStep}
 use Rattle.node_core.proofs.Closing.{never_closed}

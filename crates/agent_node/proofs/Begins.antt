@@ -9,11 +9,11 @@ use Rattle.item_wire.specs.Happenings.{SessionFields}
 use Rattle.item_wire.specs.declared.event.ItemCause.{ItemCause}
 use Rattle.item_wire.specs.declared.event.ItemFrom.{ItemFrom}
 use Rattle.item_wire.specs.declared.event.ItemState.TheVariants as State
-use Rattle.node_items.specs.Beginning.{phase_of}
-use Rattle.node_items.specs.Hearing.{heard}
-use Rattle.node_items.specs.Keeping.{Leaves}
-use Rattle.node_items.specs.Told.{change_of, up_of}
-use Rattle.node_items.proofs.States.{state_again}
+use Rattle.node_core.specs.Beginning.{phase_of}
+use Rattle.node_core.specs.Hearing.{heard}
+use Rattle.node_core.specs.Left.{Leaves}
+use Rattle.node_core.specs.Told.{change_of, up_of}
+use Rattle.node_core.proofs.States.{state_again}
 use Rattle.node_core.specs.NodeModel.Step.{Opened, Post, nothing, post}
 use Rattle.agent_tables.specs.declared.hearing.Hearing.{Hearing}
 use Rattle.agent_node.specs.Applying.{HasHeard, HasTaken}

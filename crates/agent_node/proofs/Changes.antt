@@ -11,8 +11,8 @@ use Rattle.ov_sync.proofs.EmbedLaws.{difference-embedded}
 use Rattle.ov_types.specs.contracts.numbers.LabelPartialEq.TheImpl as labels
 use Rattle.ov_types.specs.declared.keys.UpKey.{UpKey}
 use Rattle.ov_types.specs.declared.numbers.Label.{Label as LabelNo}
-use Rattle.node_items.specs.Told.{ChangeFits, up_of, up_order}
-use Rattle.node_items.proofs.Maps.{difference_fits}
+use Rattle.node_core.specs.Told.{ChangeFits, up_of, up_order}
+use Rattle.node_core.proofs.Maps.{difference_fits}
 use Rattle.node_core.specs.NodeModel.Keys.{of_up}
 use Rattle.node_core.specs.NodeModel.Maps.{Change, difference}
 use Rattle.node_core.specs.NodeModel.Values.{Label, same_value}

@@ -11,7 +11,7 @@ use Rattle.ov_types.specs.declared.keys.DownKey.{DownKey}
 use Rattle.ov_types.specs.declared.keys.DownValue.{DownValue}
 use Rattle.ov_types.specs.declared.keys.UpKey.{UpKey}
 use Rattle.ov_types.specs.declared.numbers.Label.{Label as LabelNo}
-use Rattle.node_items.specs.Told.{down_of, down_order, down_value, up_of, up_order}
+use Rattle.node_core.specs.Told.{down_of, down_order, down_value, up_of, up_order}
 use Rattle.node_core.specs.NodeModel.Keys.{key_cmp, of_down, of_up}
 use Rattle.node_core.specs.NodeModel.Values.{Label}
 use Rattle.node_core.proofs.NodeModel.Orders.{key_exact, key_total}

@@ -20,8 +20,8 @@ use Rattle.ov_types.specs.declared.rows.AgentRows.{AgentRows}
 use Rattle.item_wire.specs.declared.item.Item.{Item}
 use Rattle.node_core.specs.Plans.{ArePlans}
 use Rattle.node_core.specs.declared.ends.Plan.{Plan}
-use Rattle.node_items.specs.Beginning.{phase_of}
-use Rattle.node_items.specs.Told.{change_of, down_of, spelled, up_of}
+use Rattle.node_core.specs.Beginning.{phase_of}
+use Rattle.node_core.specs.Told.{change_of, down_of, spelled, up_of}
 use Rattle.node_laws.specs.Stepped.{AreTold, HoldTheSame}
 use Rattle.node_laws.proofs.AtTheEnd.{seen_alike}
 use Rattle.node_core.specs.NodeModel.Agent.{Holdings, acl_entry, attached, is_needed, needed_by, slice_in_use, told_of as told_by, wanted as wanted_of}

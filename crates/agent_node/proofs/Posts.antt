@@ -23,14 +23,14 @@ use Rattle.ov_types.specs.declared.rows.AgentRows.{AgentRows}
 use Rattle.ov_types.specs.declared.rows.NodeId.{NodeId}
 use Rattle.node_core.specs.Plans.{ArePlans}
 use Rattle.node_core.specs.declared.ends.Plan.{Plan}
-use Rattle.node_items.specs.Beginning.{phase_of}
-use Rattle.node_items.specs.Told.{AllFit, Fits, down_of, up_of}
+use Rattle.node_core.specs.Beginning.{phase_of}
+use Rattle.node_core.specs.Told.{AllFit, Fits, down_of, up_of}
 use Rattle.node_core.specs.NodeModel.Agent.{Heard, acl_entry, attached, is_needed, routes as routes_of, row_entry}
 use Rattle.node_core.specs.NodeModel.Agent.{rows as rows_of, slice_in_use, wanted as wanted_of}
 use Rattle.node_core.specs.NodeModel.Keys.{Key, key_cmp}
 use Rattle.node_core.specs.NodeModel.Maps.{Map}
 use Rattle.node_core.specs.NodeModel.Values.{Value}
-use Rattle.node_items.proofs.States.{closes}
+use Rattle.node_core.proofs.States.{closes}
 use Rattle.node_core.specs.NodeModel.Step.{Phase, Post, nothing, post}
 use Rattle.agent_tables.specs.Views.{heard_of, is_up as is_heard_up}
 use Rattle.agent_tables.specs.declared.hearing.Hearing.{Hearing}

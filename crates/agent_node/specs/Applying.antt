@@ -9,10 +9,10 @@ use Rattle.ov_types.specs.declared.numbers.InstanceId.{InstanceId}
 use Rattle.ov_types.specs.declared.objects.LowKey.{LowKey}
 use Rattle.item_wire.specs.declared.event.ItemCause.{ItemCause}
 use Rattle.item_wire.specs.declared.input.Came.{Came}
-use Rattle.node_items.specs.Hearing.{heard}
-use Rattle.node_items.specs.Keeping.{Leaves}
-use Rattle.node_items.specs.Taking as item
-use Rattle.node_items.specs.Told.{change_of, down_of}
+use Rattle.node_core.specs.Hearing.{heard}
+use Rattle.node_core.specs.Left.{Leaves}
+use Rattle.node_core.specs.Taking as item
+use Rattle.node_core.specs.Told.{change_of, down_of}
 use Rattle.node_core.specs.NodeModel.Keys.{Row}
 use Rattle.node_core.specs.NodeModel.Maps.{Change, Map, objects}
 use Rattle.node_core.specs.NodeModel.Step.{Post, post}

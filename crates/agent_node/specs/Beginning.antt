@@ -7,8 +7,8 @@ use Rattle.ov_types.specs.declared.rows.NodeId.{NodeId}
 use Rattle.item_wire.specs.Happenings.{SessionFields}
 use Rattle.item_wire.specs.declared.event.ItemCause.{ItemCause}
 use Rattle.item_wire.specs.declared.event.ItemFrom.TheVariants.{Control}
-use Rattle.node_items.specs.Beginning as item
-pub use Rattle.node_items.specs.Beginning.{state_at}
+use Rattle.node_core.specs.Beginning as item
+pub use Rattle.node_core.specs.Beginning.{state_at}
 pub use Rattle.node_core.specs.NodeModel.Naming.{no_node}
 use Rattle.node_core.specs.NodeModel.Step.{Beginning, Phase, Post}
 use Rattle.agent_node.specs.declared.plan.AgentPlan.{AgentPlan}

@@ -1,7 +1,7 @@
 -- What is seen of an agent: its plan, its ends, the octets that it keeps, what it forwards by, and whether it failed.
 use Rattle.std.specs.Prelude.{ℕ, List, [], map, length, Bool, false}
 use Rattle.ov_types.specs.declared.rows.AgentRows.{AgentRows}
-use Rattle.node_items.specs.Told.{spelled}
+use Rattle.node_core.specs.Told.{spelled}
 use Rattle.node_core.specs.NodeModel.Agent.{Heard, Holdings, wanted as wanted_of}
 use Rattle.node_core.specs.NodeModel.Maps.{Map}
 pub use Rattle.node_core.specs.Keeping.{AreFew, AreOfLive, AreSwept, kept_at, nothing_kept}

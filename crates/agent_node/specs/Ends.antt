@@ -9,8 +9,8 @@ use Rattle.ov_types.specs.declared.rows.AgentRows.{AgentRows}
 use Rattle.ov_types.specs.declared.rows.NodeId.{NodeId}
 use Rattle.item_wire.specs.declared.event.ItemFrom.{ItemFrom}
 use Rattle.item_wire.specs.declared.event.ItemFrom.TheVariants.{Control}
-use Rattle.node_items.specs.Beginning.{phase_of}
-use Rattle.node_items.specs.Told.{AllFit, down_of, up_of}
+use Rattle.node_core.specs.Beginning.{phase_of}
+use Rattle.node_core.specs.Told.{AllFit, down_of, up_of}
 use Rattle.node_core.specs.NodeModel.Codes.{coded_post}
 use Rattle.node_core.specs.NodeModel.Step.{Post}
 use Rattle.agent_tables.specs.declared.hearing.Hearing.{Hearing}

@@ -5,7 +5,6 @@ pub mod Ends
 pub mod Planning
 pub mod Applying
 pub mod Codes
-pub mod NodeItems
 pub mod NodeCore
 pub mod NodeModel
 pub mod ItemWire

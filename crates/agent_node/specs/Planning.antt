@@ -2,8 +2,8 @@
 use Rattle.std.specs.Prelude.{◌≡◌, ◌<◌, ◌≤◌, ℕ, List, [], map, length, not, if◌then◌else◌}
 use Rattle.std.specs.List.{slice_index_or}
 use Rattle.node_core.specs.declared.ends.Plan.{Plan}
-use Rattle.node_items.specs.Beginning.{phase_of}
-use Rattle.node_items.specs.Told.{spelled, up_of}
+use Rattle.node_core.specs.Beginning.{phase_of}
+use Rattle.node_core.specs.Told.{spelled, up_of}
 use Rattle.node_core.specs.NodeModel.Maps.{Map, difference}
 use Rattle.node_core.specs.NodeModel.Step.{Phase}
 use Rattle.agent_tables.specs.declared.hearing.Hearing.{Hearing}

@@ -5,7 +5,7 @@ ghost use Rattle.item_wire.specs.Happenings.{after};
 ghost use Rattle.item_wire.specs.declared.input.Came.TheVariants.{Closed};
 ghost use Rattle.node_core.specs.Plans.{ArePlans};
 ghost use Rattle.node_core.specs.Resting.{end_at};
-ghost use Rattle.node_items.specs.Beginning.{phase_of};
+ghost use Rattle.node_core.specs.Beginning.{phase_of};
 ghost use Rattle.node_core.specs.NodeModel.Step.{nothing, post};
 ghost use Rattle.flow_acl.specs.Flows.{AreOf};
 ghost use Rattle.node_core.specs.NodeModel.Agent.{Holdings, is_needed};

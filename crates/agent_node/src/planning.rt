@@ -2,8 +2,8 @@
 ghost use Rattle.std.specs.Prelude.{◌≡◌, IfOk, OnOk, length, map};
 ghost use Rattle.std.specs.List.{All};
 ghost use Rattle.ov_sync.specs.Embed.{moved_delta};
-ghost use Rattle.node_items.specs.Beginning.{phase_of};
-ghost use Rattle.node_items.specs.Told.{ChangeFits, spelled, up_of};
+ghost use Rattle.node_core.specs.Beginning.{phase_of};
+ghost use Rattle.node_core.specs.Told.{ChangeFits, spelled, up_of};
 ghost use Rattle.node_core.specs.NodeModel.Keys.{of_up};
 ghost use Rattle.node_core.specs.NodeModel.Values.{Label as LabelOf};
 ghost use Rattle.agent_node.specs.Ends.{SentFits};
@@ -11,8 +11,7 @@ ghost use Rattle.agent_node.specs.Planning.{ArePlanned, messages_of, told_of};
 
 use agent_tables::Hearing;
 use item_wire::ItemState;
-use node_core::Plan;
-use node_items::spell_up;
+use node_core::{Plan, spell_up};
 use ov_sync::{Delta, SyncOut};
 use ov_types::{Items, Label, NoMemory, UpKey};
 use std::alloc::Global;

@@ -172,7 +172,7 @@ fn are_both(before: bool, stays: bool) -> bool
 impl Ends for TabledEnds {
     ghost use Rattle.std.specs.Prelude.{◌≡◌, refl};
     ghost use Rattle.std.proofs.Common.{◌∙◌};
-    ghost use Rattle.node_items.proofs.Begun.{behind};
+    ghost use Rattle.node_core.proofs.Begun.{behind};
     ghost use Rattle.agent_node.specs.Beginning.{BeginsKeeping, session_at};
     ghost use Rattle.agent_node.specs.Core.{kind};
 

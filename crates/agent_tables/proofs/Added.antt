@@ -22,15 +22,15 @@ use Rattle.ov_types.specs.declared.numbers.Label.{Label as LabelNo}
 use Rattle.ov_types.specs.declared.numbers.InstanceId.{InstanceId}
 use Rattle.ov_types.specs.declared.objects.LowKey.{LowKey}
 use Rattle.ov_types.specs.declared.objects.LowValue.{LowValue}
-use Rattle.node_items.specs.NodeModel.Agent.{Holdings, first_some, needed_by, publication, slice_in_use, wanted}
-use Rattle.node_items.specs.NodeModel.Keys.{Key, Subscribe, key_cmp, of_up}
-use Rattle.node_items.specs.NodeModel.Values.{Value, Label}
-use Rattle.node_items.specs.NodeModel.Maps.{Map}
-use Rattle.node_items.proofs.NodeModel.Heard.{find_either}
-use Rattle.node_items.proofs.NodeModel.Orders.{key_total, key_exact}
-use Rattle.node_items.specs.Told.{up_order, up_of}
+use Rattle.node_core.specs.NodeModel.Agent.{Holdings, first_some, needed_by, publication, slice_in_use, wanted}
+use Rattle.node_core.specs.NodeModel.Keys.{Key, Subscribe, key_cmp, of_up}
+use Rattle.node_core.specs.NodeModel.Values.{Value, Label}
+use Rattle.node_core.specs.NodeModel.Maps.{Map}
+use Rattle.node_core.proofs.NodeModel.Heard.{find_either}
+use Rattle.node_core.proofs.NodeModel.Orders.{key_total, key_exact}
+use Rattle.node_core.specs.Told.{up_order, up_of}
 use Rattle.agent_tables.specs.Kept.{added}
-use Rattle.node_items.proofs.NodeModel.Directions.{up_keeps, up_total, up_exact}
+use Rattle.node_core.proofs.NodeModel.Directions.{up_keeps, up_total, up_exact}
 use Rattle.agent_tables.proofs.Images.{up-get}
 use Rattle.agent_tables.proofs.Lists.{or_none, or_assoc, or_there}
 

@@ -13,15 +13,15 @@ use Rattle.ov_types.specs.declared.numbers.InstanceId.{InstanceId}
 use Rattle.ov_types.specs.declared.objects.LowKey.{LowKey}
 use Rattle.ov_types.specs.declared.objects.LowKey.TheVariants as key
 use Rattle.ov_types.specs.declared.objects.LowValue.{LowValue}
-use Rattle.node_items.specs.NodeModel.Agent.{Heard, Holdings, slice_in_use}
-use Rattle.node_items.specs.NodeModel.Keys.{Low, Row, Vpn, Publish, Subscribe, key_cmp}
-use Rattle.node_items.specs.NodeModel.Maps.{Change, Map, as_object, object, objects}
-use Rattle.node_items.specs.NodeModel.Values.{Value, Object, Route, Entry, Label}
-use Rattle.node_items.proofs.NodeModel.Heard.{same_options}
-use Rattle.node_items.proofs.NodeModel.Images as images
-use Rattle.node_items.proofs.NodeModel.Members.{from_find, none_some}
-use Rattle.node_items.proofs.NodeModel.Objects.{in_objects, object_of}
-use Rattle.node_items.proofs.NodeModel.Orders.{key_total}
+use Rattle.node_core.specs.NodeModel.Agent.{Heard, Holdings, slice_in_use}
+use Rattle.node_core.specs.NodeModel.Keys.{Low, Row, Vpn, Publish, Subscribe, key_cmp}
+use Rattle.node_core.specs.NodeModel.Maps.{Change, Map, as_object, object, objects}
+use Rattle.node_core.specs.NodeModel.Values.{Value, Object, Route, Entry, Label}
+use Rattle.node_core.proofs.NodeModel.Heard.{same_options}
+use Rattle.node_core.proofs.NodeModel.Images as images
+use Rattle.node_core.proofs.NodeModel.Members.{from_find, none_some}
+use Rattle.node_core.proofs.NodeModel.Objects.{in_objects, object_of}
+use Rattle.node_core.proofs.NodeModel.Orders.{key_total}
 use Rattle.agent_tables.specs.Listed.{SameBut, list_between, list_key}
 use Rattle.agent_tables.specs.Touched.{RowKey}
 use Rattle.agent_tables.proofs.Listed.{find_member, in_order, low_exact}

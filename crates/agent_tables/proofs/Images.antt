@@ -5,7 +5,7 @@ use Rattle.std.proofs.Common.{sym, ◌∙◌, ap}
 use Rattle.ov_types.specs.Prefix.{Block}
 use Rattle.ov_types.specs.declared.keys.DownKey.TheVariants.{Route, Slice}
 use Rattle.ov_types.specs.declared.numbers.InstanceId.{InstanceId}
-use Rattle.node_items.specs.NodeModel.Agent.{as_hop}
+use Rattle.node_core.specs.NodeModel.Agent.{as_hop}
 use Rattle.std.specs.Option.{option_map}
 use Rattle.std.specs.List.Sorted.{IsStrictlySortedBy}
 use Rattle.std.specs.FinMap.{get, entries}
@@ -16,12 +16,12 @@ use Rattle.ov_types.specs.declared.keys.DownValue.{DownValue}
 use Rattle.ov_types.specs.declared.objects.LowKey.{LowKey}
 use Rattle.ov_types.specs.declared.keys.UpKey.{UpKey}
 use Rattle.ov_types.specs.declared.numbers.Label.{Label as LabelNo}
-use Rattle.node_items.specs.NodeModel.Keys.{Low, Row, of_down, of_up}
-use Rattle.node_items.specs.NodeModel.Maps.{as_object, object}
-use Rattle.node_items.specs.NodeModel.Values.{Label}
-use Rattle.node_items.proofs.NodeModel.Directions.{down_keeps, down_total, down_exact, up_keeps, up_total, up_exact}
-use Rattle.node_items.proofs.NodeModel.Directions.{image-get, image-entries}
-use Rattle.node_items.specs.Told.{down_value, down_order, up_order, down_of, up_of}
+use Rattle.node_core.specs.NodeModel.Keys.{Low, Row, of_down, of_up}
+use Rattle.node_core.specs.NodeModel.Maps.{as_object, object}
+use Rattle.node_core.specs.NodeModel.Values.{Label}
+use Rattle.node_core.proofs.NodeModel.Directions.{down_keeps, down_total, down_exact, up_keeps, up_total, up_exact}
+use Rattle.node_core.proofs.NodeModel.Directions.{image-get, image-entries}
+use Rattle.node_core.specs.Told.{down_value, down_order, up_order, down_of, up_of}
 
 pub down-entries : (es : List (DownKey × DownValue)) → IsStrictlySortedBy down_order (map (λ e. e.0) es) → entries (down_of es) ≡ map (moved_entry of_down down_value) es
 down-entries = image-entries of_down down_value down_total down_exact down_keeps

@@ -19,15 +19,15 @@ use Rattle.ov_types.specs.declared.objects.LowKey.{LowKey}
 use Rattle.ov_types.specs.declared.objects.LowKey.TheVariants as key
 use Rattle.ov_types.specs.declared.objects.LowValue.{LowValue}
 use Rattle.ov_types.specs.declared.rows.AgentRows.{AgentRows}
-use Rattle.node_items.specs.NodeModel.Agent.{Holdings, acl_entry, attached, first_some, is_needed, needed_by, needed_for, publication, slice_in_use, wanted}
-use Rattle.node_items.specs.NodeModel.Keys.{Key, Subscribe, key_cmp}
-use Rattle.node_items.specs.NodeModel.Members.{Member}
-use Rattle.node_items.specs.NodeModel.Values.{Value, Label}
-use Rattle.node_items.proofs.NodeModel.Heard.{find_either, same_options}
-use Rattle.node_items.proofs.NodeModel.Images as images
-use Rattle.node_items.proofs.NodeModel.Local as local
-use Rattle.node_items.proofs.NodeModel.Members.{any_in, found, from_any, from_find, from_flat_map, from_map, iff_same, in_flat_map, in_map}
-use Rattle.node_items.proofs.NodeModel.Orders.{key_exact, key_total}
+use Rattle.node_core.specs.NodeModel.Agent.{Holdings, acl_entry, attached, first_some, is_needed, needed_by, needed_for, publication, slice_in_use, wanted}
+use Rattle.node_core.specs.NodeModel.Keys.{Key, Subscribe, key_cmp}
+use Rattle.node_core.specs.NodeModel.Members.{Member}
+use Rattle.node_core.specs.NodeModel.Values.{Value, Label}
+use Rattle.node_core.proofs.NodeModel.Heard.{find_either, same_options}
+use Rattle.node_core.proofs.NodeModel.Images as images
+use Rattle.node_core.proofs.NodeModel.Local as local
+use Rattle.node_core.proofs.NodeModel.Members.{any_in, found, from_any, from_find, from_flat_map, from_map, iff_same, in_flat_map, in_map}
+use Rattle.node_core.proofs.NodeModel.Orders.{key_exact, key_total}
 use Rattle.agent_tables.specs.Listed.{HaveSame, SameBut, is_list, needed_at, object_in_use, with_object}
 use Rattle.agent_tables.specs.Touched.{AreTables, Tabled, is_listed}
 use Rattle.agent_tables.proofs.Ordered.{ascends_filter, ascends_inserted, find-filter, find-inserted, same_lists, nowhere_before, there_before}

@@ -5,7 +5,7 @@ use Rattle.std.specs.declared.option.Option.TheVariants.{Some, None}
 use Rattle.std.proofs.Math.Seq.{drop-cons}
 use Rattle.std.proofs.Common.{refl, ◌∙◌, ap, arith}
 use Rattle.std.proofs.Math.ListN.{drop_of_length-le}
-use Rattle.node_items.specs.NodeModel.Agent.{first_some}
+use Rattle.node_core.specs.NodeModel.Agent.{first_some}
 
 next : (k : ℕ) → suc k ≡ k + 1
 next k = omega arith

@@ -15,10 +15,10 @@ use Rattle.item_wire.specs.Ranges.{is_in_range, is_node_address}
 use Rattle.item_wire.specs.declared.item.Item.{Item}
 use Rattle.item_wire.specs.declared.item.Item.TheVariants as I
 use Rattle.item_wire.proofs.ChangeLemmas.{item_of_an_object}
-use Rattle.node_items.specs.NodeModel.Keys.{Low}
-use Rattle.node_items.specs.NodeModel.Values.{Object}
-use Rattle.node_items.proofs.NodeModel.Members.{none_some}
-use Rattle.node_items.specs.Told.{Fits}
+use Rattle.node_core.specs.NodeModel.Keys.{Low}
+use Rattle.node_core.specs.NodeModel.Values.{Object}
+use Rattle.node_core.proofs.NodeModel.Members.{none_some}
+use Rattle.node_core.specs.Told.{Fits}
 use Rattle.agent_tables.specs.Objects.{is_of_a_use}
 
 -- an object that can be told stands under its key

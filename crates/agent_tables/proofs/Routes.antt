@@ -22,10 +22,10 @@ use Rattle.ov_types.specs.declared.rows.Entry.{Entry as RouteEntry}
 use Rattle.vrouter_fib.proofs.Keys.{same_number}
 use Rattle.packet_trace.specs.Tables.{rows_in}
 use Rattle.route_targets.specs.Forwarding.{route_in}
-use Rattle.node_items.specs.NodeModel.Agent.{Heard, Holdings, first_some, is_needed, needed, routes, rows_heard}
-use Rattle.node_items.proofs.NodeModel.Heard.{find_either, row_total, row_exact}
-use Rattle.node_items.proofs.NodeModel.Members.{none_some}
-use Rattle.node_items.proofs.NodeModel.Orders.{prefix_total, prefix_exact}
+use Rattle.node_core.specs.NodeModel.Agent.{Heard, Holdings, first_some, is_needed, needed, routes, rows_heard}
+use Rattle.node_core.proofs.NodeModel.Heard.{find_either, row_total, row_exact}
+use Rattle.node_core.proofs.NodeModel.Members.{none_some}
+use Rattle.node_core.proofs.NodeModel.Orders.{prefix_total, prefix_exact}
 use Rattle.agent_tables.specs.Routes.{Table, instance_order, has_table, kept, kept_in, kept_all, kept_where, routes_in, routes_of, routes_on}
 use Rattle.agent_tables.proofs.Lists.{or_none, or_assoc, or_there}
 use Rattle.agent_tables.proofs.Ordered.{find-lookup, same_lists, ascends_map, ascends_inserted, find-inserted, ascends_filter, find-filter}

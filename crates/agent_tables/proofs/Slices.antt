@@ -19,14 +19,14 @@ use Rattle.ov_types.specs.declared.objects.LowValue.TheVariants as low
 use Rattle.ov_types.specs.declared.rows.Attached.{Attached}
 use Rattle.ov_types.specs.declared.rows.Attached.TheVariants.{Circuit}
 use Rattle.packet_trace.specs.Circuits.{IsOfAUse}
-use Rattle.node_items.specs.NodeModel.Agent.{Holdings, acl_entry, attached, slice_in_use}
-use Rattle.node_items.specs.NodeModel.Keys.{Low, key_cmp}
-use Rattle.node_items.specs.NodeModel.Members.{Member}
-use Rattle.node_items.proofs.NodeModel.Images as images
-use Rattle.node_items.proofs.NodeModel.Members.{none_some}
-use Rattle.node_items.proofs.NodeModel.Orders.{key_total}
-use Rattle.node_items.proofs.NodeModel.Published.{IsBefore, Rise, rise_slice}
-use Rattle.node_items.proofs.NodeModel.Local.{less_is}
+use Rattle.node_core.specs.NodeModel.Agent.{Holdings, acl_entry, attached, slice_in_use}
+use Rattle.node_core.specs.NodeModel.Keys.{Low, key_cmp}
+use Rattle.node_core.specs.NodeModel.Members.{Member}
+use Rattle.node_core.proofs.NodeModel.Images as images
+use Rattle.node_core.proofs.NodeModel.Members.{none_some}
+use Rattle.node_core.proofs.NodeModel.Orders.{key_total}
+use Rattle.node_core.proofs.NodeModel.Published.{IsBefore, Rise, rise_slice}
+use Rattle.node_core.proofs.NodeModel.Local.{less_is}
 use Rattle.agent_tables.specs.Kept.{label_order}
 use Rattle.agent_tables.specs.Objects.{is_of_a_use}
 use Rattle.agent_tables.specs.Slice.{pairs_of}

@@ -22,15 +22,15 @@ use Rattle.item_wire.specs.Entries.{is_from_to}
 use Rattle.item_wire.specs.Ranges.{is_in_range, is_network, is_instance, is_rule, is_action, is_block, is_protocol, are_ports, is_rule_number, is_address, is_node_address}
 use Rattle.item_wire.specs.declared.item.Item.{Item}
 use Rattle.item_wire.specs.declared.item.Item.TheVariants as I
-use Rattle.node_items.specs.NodeModel.Agent.{Heard, Holdings, entered_by, needed_by, needed_for, publication, slice_in_use, wanted}
-use Rattle.node_items.specs.NodeModel.Keys.{Key, Low, Subscribe}
-use Rattle.node_items.specs.NodeModel.Maps.{objects}
-use Rattle.node_items.specs.NodeModel.Members.{Member}
-use Rattle.node_items.specs.NodeModel.Values.{Value, Object, Label}
-use Rattle.node_items.proofs.NodeModel.Members.{none_some, from_flat_map, from_filter_map, from_map, in_either, from_entry}
-use Rattle.node_items.proofs.NodeModel.Objects.{object_of}
-use Rattle.node_items.proofs.NodeModel.Orders.{key_total, key_exact}
-use Rattle.node_items.specs.Told.{AllFit, Fits}
+use Rattle.node_core.specs.NodeModel.Agent.{Heard, Holdings, entered_by, needed_by, needed_for, publication, slice_in_use, wanted}
+use Rattle.node_core.specs.NodeModel.Keys.{Key, Low, Subscribe}
+use Rattle.node_core.specs.NodeModel.Maps.{objects}
+use Rattle.node_core.specs.NodeModel.Members.{Member}
+use Rattle.node_core.specs.NodeModel.Values.{Value, Object, Label}
+use Rattle.node_core.proofs.NodeModel.Members.{none_some, from_flat_map, from_filter_map, from_map, in_either, from_entry}
+use Rattle.node_core.proofs.NodeModel.Objects.{object_of}
+use Rattle.node_core.proofs.NodeModel.Orders.{key_total, key_exact}
+use Rattle.node_core.specs.Told.{AllFit, Fits}
 use Rattle.agent_tables.proofs.Objects.{circuit}
 
 -- ---- numbers of instances

@@ -12,14 +12,14 @@ use Rattle.ov_types.specs.declared.numbers.InstanceId.{InstanceId}
 use Rattle.ov_types.specs.declared.objects.LowKey.{LowKey}
 use Rattle.ov_types.specs.declared.objects.LowValue.{LowValue}
 use Rattle.ov_types.specs.declared.rows.Entry.{Entry as RouteEntry}
-use Rattle.node_items.specs.NodeModel.Agent.{row_entry}
-use Rattle.node_items.specs.NodeModel.Keys.{Key, of_down}
-use Rattle.node_items.specs.NodeModel.Maps.{low_entry, objects}
-use Rattle.node_items.specs.NodeModel.Members.{Member}
-use Rattle.node_items.specs.NodeModel.Values.{Value}
-use Rattle.node_items.proofs.NodeModel.Members.{get_member, in_map}
-use Rattle.node_items.proofs.NodeModel.Orders.{key_total}
-use Rattle.node_items.specs.Told.{AllFit, Fits, down_order, down_of, down_value}
+use Rattle.node_core.specs.NodeModel.Agent.{row_entry}
+use Rattle.node_core.specs.NodeModel.Keys.{Key, of_down}
+use Rattle.node_core.specs.NodeModel.Maps.{low_entry, objects}
+use Rattle.node_core.specs.NodeModel.Members.{Member}
+use Rattle.node_core.specs.NodeModel.Values.{Value}
+use Rattle.node_core.proofs.NodeModel.Members.{get_member, in_map}
+use Rattle.node_core.proofs.NodeModel.Orders.{key_total}
+use Rattle.node_core.specs.Told.{AllFit, Fits, down_order, down_of, down_value}
 use Rattle.agent_tables.specs.Routes.{routes_in}
 use Rattle.agent_tables.proofs.Images.{down-entries}
 

@@ -26,14 +26,14 @@ use Rattle.ov_types.specs.declared.rows.AgentRows.{AgentRows}
 use Rattle.ov_types.specs.declared.rows.Entry.{Entry as RouteEntry}
 use Rattle.packet_trace.specs.Tables.{rows_in}
 use Rattle.item_wire.specs.declared.item.Item.{Item}
-use Rattle.node_items.specs.Told.{change_of}
-use Rattle.node_items.specs.NodeModel.Agent.{Heard, Holdings, acl_entry, as_hop, attached, besides_rows, first_some, is_needed, needed_by, route_from, routes, rows as rows_held, slice_in_use}
-use Rattle.node_items.specs.NodeModel.Keys.{Key, Low, Row, Vpn, Publish, Subscribe, key_cmp}
-use Rattle.node_items.specs.NodeModel.Maps.{Change, Map, low_entry, objects}
-use Rattle.node_items.specs.NodeModel.Values.{Value}
-use Rattle.node_items.proofs.NodeModel.Heard.{first_rows, route_is, row_exact, row_total, same_options}
-use Rattle.node_items.proofs.NodeModel.Members.{found, from_find, none_some}
-use Rattle.node_items.proofs.NodeModel.Orders.{key_exact, key_total, then_equal}
+use Rattle.node_core.specs.Told.{change_of}
+use Rattle.node_core.specs.NodeModel.Agent.{Heard, Holdings, acl_entry, as_hop, attached, besides_rows, first_some, is_needed, needed_by, route_from, routes, rows as rows_held, slice_in_use}
+use Rattle.node_core.specs.NodeModel.Keys.{Key, Low, Row, Vpn, Publish, Subscribe, key_cmp}
+use Rattle.node_core.specs.NodeModel.Maps.{Change, Map, low_entry, objects}
+use Rattle.node_core.specs.NodeModel.Values.{Value}
+use Rattle.node_core.proofs.NodeModel.Heard.{first_rows, route_is, row_exact, row_total, same_options}
+use Rattle.node_core.proofs.NodeModel.Members.{found, from_find, none_some}
+use Rattle.node_core.proofs.NodeModel.Orders.{key_exact, key_total, then_equal}
 use Rattle.agent_tables.specs.Routes.{Table, has_table, instance_order, routes_of}
 use Rattle.agent_tables.specs.Touched.{AgreeBut, AreTables, RowKey, SameRoutes, Tabled, is_among, is_listed, led, led_all, led_in, route_key, with_row, with_rows, with_routes}
 use Rattle.agent_tables.proofs.Lists.{or_none}

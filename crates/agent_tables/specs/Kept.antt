@@ -8,9 +8,9 @@ use Rattle.std.specs.Ordering.{nat_cmp}
 use Rattle.std.specs.FinMap.{entries, from_entries}
 use Rattle.ov_types.specs.declared.keys.UpKey.{UpKey}
 use Rattle.ov_types.specs.declared.numbers.Label.{Label as LabelNo}
-use Rattle.node_items.specs.NodeModel.Keys.{Key, of_up}
-use Rattle.node_items.specs.NodeModel.Values.{Value, Label}
-use Rattle.node_items.specs.NodeModel.Maps.{Map}
+use Rattle.node_core.specs.NodeModel.Keys.{Key, of_up}
+use Rattle.node_core.specs.NodeModel.Values.{Value, Label}
+use Rattle.node_core.specs.NodeModel.Maps.{Map}
 
 -- a map with further entries: at a key that it has they do not count, and of two of them with one key the first does
 abbrev pub added : Map → List (Key × Value) → Map

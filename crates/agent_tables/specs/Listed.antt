@@ -16,9 +16,9 @@ use Rattle.ov_types.specs.declared.objects.LowKey.{LowKey}
 use Rattle.ov_types.specs.declared.objects.LowKey.TheVariants.{Acl}
 use Rattle.ov_types.specs.declared.objects.LowValue.{LowValue}
 use Rattle.ov_sync.specs.declared.Delta.TheVariants.{Put, Drop}
-use Rattle.node_items.specs.NodeModel.Agent.{Holdings, is_needed, needed_for, slice_in_use}
-use Rattle.node_items.specs.NodeModel.Keys.{Low}
-use Rattle.node_items.specs.NodeModel.Maps.{Change}
+use Rattle.node_core.specs.NodeModel.Agent.{Holdings, is_needed, needed_for, slice_in_use}
+use Rattle.node_core.specs.NodeModel.Keys.{Low}
+use Rattle.node_core.specs.NodeModel.Maps.{Change}
 use Rattle.agent_tables.specs.Touched.{AreTables, SameRoutes, Tabled}
 
 abbrev pub object_in_use : Holdings → LowKey → Option LowValue

@@ -11,8 +11,8 @@ use Rattle.ov_types.specs.Prefix.{Block, block_cmp}
 use Rattle.ov_types.specs.declared.numbers.InstanceId.{InstanceId}
 use Rattle.ov_types.specs.declared.rows.Entry.{Entry}
 use Rattle.ov_types.specs.contracts.numbers.InstanceIdOrd.TheImpl as instances
-use Rattle.node_items.specs.NodeModel.Agent.{Heard, row_entry}
-use Rattle.node_items.specs.NodeModel.Maps.{Map}
+use Rattle.node_core.specs.NodeModel.Agent.{Heard, row_entry}
+use Rattle.node_core.specs.NodeModel.Maps.{Map}
 use Rattle.packet_trace.specs.Tables.{rows_in}
 
 -- an instance with its routes

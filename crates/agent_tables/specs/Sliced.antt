@@ -4,7 +4,7 @@ use Rattle.std.specs.BTreeMap.{IsOrdered}
 use Rattle.std.specs.List.{All, AllByRecursion}
 use Rattle.ov_types.specs.declared.numbers.InstanceId.{InstanceId}
 use Rattle.packet_trace.specs.Circuits.{IsOfAUse}
-use Rattle.node_items.specs.NodeModel.Agent.{Holdings, is_needed, rows as rows_of}
+use Rattle.node_core.specs.NodeModel.Agent.{Holdings, is_needed, rows as rows_of}
 use Rattle.agent_tables.specs.Routes.{has_table, instance_order}
 use Rattle.agent_tables.specs.declared.sliced.SliceTables.{SliceTables}
 

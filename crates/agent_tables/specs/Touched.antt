@@ -23,9 +23,9 @@ use Rattle.ov_types.specs.declared.rows.AgentRows.{AgentRows}
 use Rattle.ov_types.specs.declared.rows.Entry.{Entry}
 use Rattle.ov_sync.specs.declared.Delta.TheVariants.{Put, Drop}
 use Rattle.ov_sync.specs.Keyed.{changed}
-use Rattle.node_items.specs.NodeModel.Agent.{Heard, Holdings, besides_rows, is_needed, route_from, rows as rows_of}
-use Rattle.node_items.specs.NodeModel.Keys.{Row}
-use Rattle.node_items.specs.NodeModel.Maps.{Change}
+use Rattle.node_core.specs.NodeModel.Agent.{Heard, Holdings, besides_rows, is_needed, route_from, rows as rows_of}
+use Rattle.node_core.specs.NodeModel.Keys.{Row}
+use Rattle.node_core.specs.NodeModel.Maps.{Change}
 use Rattle.agent_tables.specs.Routes.{Table}
 
 -- an instance and a prefix

@@ -2,8 +2,8 @@
 use Rattle.std.specs.Prelude.{Bool, true, false}
 use Rattle.item_wire.specs.declared.event.ItemState.{ItemState}
 use Rattle.item_wire.specs.declared.event.ItemState.TheVariants.{Up}
-use Rattle.node_items.specs.Told.{down_of}
-use Rattle.node_items.specs.NodeModel.Agent.{Heard}
+use Rattle.node_core.specs.Told.{down_of}
+use Rattle.node_core.specs.NodeModel.Agent.{Heard}
 use Rattle.agent_tables.specs.declared.hearing.Hearing.{Hearing}
 
 abbrev pub is_up : ItemState → Bool

@@ -4,7 +4,7 @@ ghost use Rattle.std.specs.Option.{IfSome, option_copied, option_map};
 ghost use Rattle.std.specs.List.{filter_map};
 ghost use Rattle.std.specs.List.Sorted.{IsStrictlySortedBy};
 ghost use Rattle.ov_types.specs.Keys.{low_key_cmp};
-ghost use Rattle.node_items.specs.NodeModel.Agent.{acl_entry};
+ghost use Rattle.node_core.specs.NodeModel.Agent.{acl_entry};
 ghost use Rattle.ov_types.specs.declared.objects.LowKey.TheVariants.{Acl as AclKey};
 ghost use Rattle.agent_tables.specs.Kept.{with_entry};
 ghost use Rattle.agent_tables.specs.Listed.{with_object};

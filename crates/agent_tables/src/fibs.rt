@@ -2,9 +2,9 @@
 ghost use Rattle.std.specs.Prelude.{◌≡◌, ◌↔◌, ◌==◌, [], IfOk, IsTrue, OnOk, map};
 ghost use Rattle.std.specs.BTreeMap.{IsOrdered};
 ghost use Rattle.std.specs.List.{AllByRecursion, list_any};
-ghost use Rattle.node_items.specs.Told.{down_of, down_value};
-ghost use Rattle.node_items.specs.NodeModel.Agent.{row_entry, rows_heard};
-ghost use Rattle.node_items.specs.NodeModel.Keys.{of_down};
+ghost use Rattle.node_core.specs.Told.{down_of, down_value};
+ghost use Rattle.node_core.specs.NodeModel.Agent.{row_entry, rows_heard};
+ghost use Rattle.node_core.specs.NodeModel.Keys.{of_down};
 ghost use Rattle.agent_tables.specs.Routes.{has_table, instance_order, kept, kept_all, kept_in, kept_where, routes_in};
 ghost use Rattle.agent_tables.specs.Routes.{routes_on};
 ghost use Rattle.agent_tables.specs.Touched.{led, led_all, led_in};

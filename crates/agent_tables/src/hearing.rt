@@ -1,9 +1,9 @@
 //! What was heard on the sessions of an agent.
 ghost use Rattle.std.specs.Prelude.{◌≡◌, map};
 ghost use Rattle.std.specs.FinMap.{get};
-ghost use Rattle.node_items.specs.Told.{down_of};
-ghost use Rattle.node_items.specs.NodeModel.Agent.{as_hop, route_from};
-ghost use Rattle.node_items.specs.NodeModel.Keys.{Row};
+ghost use Rattle.node_core.specs.Told.{down_of};
+ghost use Rattle.node_core.specs.NodeModel.Agent.{as_hop, route_from};
+ghost use Rattle.node_core.specs.NodeModel.Keys.{Row};
 ghost use Rattle.agent_tables.specs.Touched.{route_on};
 ghost use Rattle.agent_tables.specs.Views.{heard_of};
 

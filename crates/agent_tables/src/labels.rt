@@ -4,7 +4,7 @@ ghost use Rattle.std.specs.List.{All, filter_map};
 ghost use Rattle.std.specs.List.Sorted.{IsStrictlySortedBy};
 ghost use Rattle.ov_types.specs.Keys.{low_key_cmp};
 ghost use Rattle.packet_trace.specs.Circuits.{IsOfAUse};
-ghost use Rattle.node_items.specs.NodeModel.Agent.{attached};
+ghost use Rattle.node_core.specs.NodeModel.Agent.{attached};
 ghost use Rattle.agent_tables.specs.Kept.{label_order, with_entry};
 ghost use Rattle.agent_tables.specs.Slice.{pairs_of};
 

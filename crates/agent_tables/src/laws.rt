@@ -3,10 +3,10 @@ ghost use Rattle.std.specs.Prelude.{◌≡◌, ℕ, None, Some, true, if◌then�
 ghost use Rattle.std.specs.List.{AllByRecursion};
 ghost use Rattle.ov_types.specs.declared.numbers.InstanceId.{InstanceId};
 ghost use Rattle.ov_types.specs.declared.objects.LowKey.{LowKey};
-ghost use Rattle.node_items.specs.Told.{AllFit};
-ghost use Rattle.node_items.specs.NodeModel.Agent.{Heard, Holdings, is_needed, route_from, routes, rows, slice_in_use, wanted};
-ghost use Rattle.node_items.specs.NodeModel.Maps.{Change};
-ghost use Rattle.node_items.specs.NodeModel.Step.{At};
+ghost use Rattle.node_core.specs.Told.{AllFit};
+ghost use Rattle.node_core.specs.NodeModel.Agent.{Heard, Holdings, is_needed, route_from, routes, rows, slice_in_use, wanted};
+ghost use Rattle.node_core.specs.NodeModel.Maps.{Change};
+ghost use Rattle.node_core.specs.NodeModel.Step.{At};
 ghost use Rattle.agent_tables.specs.Listed.{SameBut, is_list, list_between, list_key};
 ghost use Rattle.agent_tables.specs.Touched.{RowKey, SameRoutes, route_key, told, with_row};
 

@@ -2,7 +2,7 @@
 ghost use Rattle.std.specs.Prelude.{◌≡◌, ◌++◌, true, IfOk, IsTrue, OnOk};
 ghost use Rattle.std.specs.List.{filter_map, list_all};
 ghost use Rattle.std.specs.Option.{option_copied, option_map};
-ghost use Rattle.node_items.specs.NodeModel.Agent.{entered_by, needed_by, needed_for};
+ghost use Rattle.node_core.specs.NodeModel.Agent.{entered_by, needed_by, needed_for};
 ghost use Rattle.agent_tables.specs.Listed.{needed_at};
 ghost use Rattle.agent_tables.specs.Slice.{pairs_of};
 ghost use Rattle.agent_tables.specs.Touched.{is_listed};

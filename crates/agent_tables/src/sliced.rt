@@ -1,8 +1,8 @@
 //! What the slice in use gives to forward by, before any route.
 ghost use Rattle.std.specs.Prelude.{IfOk, map};
 ghost use Rattle.std.specs.List.{AllByRecursion};
-ghost use Rattle.node_items.specs.Told.{AllFit};
-ghost use Rattle.node_items.specs.NodeModel.Agent.{Heard};
+ghost use Rattle.node_core.specs.Told.{AllFit};
+ghost use Rattle.node_core.specs.NodeModel.Agent.{Heard};
 ghost use Rattle.agent_tables.specs.Sliced.{AreOfSlice};
 ghost use Rattle.agent_tables.specs.Views.{heard_of};
 

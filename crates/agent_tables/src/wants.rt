@@ -1,10 +1,10 @@
 //! What an agent tells its control nodes.
 ghost use Rattle.std.specs.Prelude.{◌≡◌, ◌∷◌, [], IfOk, OnOk, map};
 ghost use Rattle.std.specs.List.{AllByRecursion, flat_map};
-ghost use Rattle.node_items.specs.Told.{AllFit, up_of};
-ghost use Rattle.node_items.specs.NodeModel.Agent.{Heard, publication, wanted as wanted_of};
-ghost use Rattle.node_items.specs.NodeModel.Keys.{Subscribe, of_up};
-ghost use Rattle.node_items.specs.NodeModel.Values.{Label as LabelOf};
+ghost use Rattle.node_core.specs.Told.{AllFit, up_of};
+ghost use Rattle.node_core.specs.NodeModel.Agent.{Heard, publication, wanted as wanted_of};
+ghost use Rattle.node_core.specs.NodeModel.Keys.{Subscribe, of_up};
+ghost use Rattle.node_core.specs.NodeModel.Values.{Label as LabelOf};
 ghost use Rattle.agent_tables.specs.Kept.{added, entries_of};
 ghost use Rattle.agent_tables.specs.Slice.{pairs_of};
 ghost use Rattle.agent_tables.specs.Views.{heard_of};

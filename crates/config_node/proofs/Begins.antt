@@ -16,11 +16,11 @@ use Rattle.item_wire.specs.declared.event.ItemFrom.TheVariants as From
 use Rattle.item_wire.specs.declared.event.ItemState.TheVariants as State
 use Rattle.item_wire.specs.declared.item.Item.{Item}
 use Rattle.config_check.specs.Checked.{Checked}
-use Rattle.node_items.specs.Beginning.{phase_of}
-use Rattle.node_items.specs.Hearing.{heard}
-use Rattle.node_items.specs.Keeping.{Leaves}
-use Rattle.node_items.specs.Told.{change_of}
-use Rattle.node_items.proofs.States.{state_again}
+use Rattle.node_core.specs.Beginning.{phase_of}
+use Rattle.node_core.specs.Hearing.{heard}
+use Rattle.node_core.specs.Left.{Leaves}
+use Rattle.node_core.specs.Told.{change_of}
+use Rattle.node_core.proofs.States.{state_again}
 use Rattle.node_core.specs.NodeModel.Step.{Opened, Post, nothing, post}
 use Rattle.config_node.specs.Beginning.{controller_at, no_node, session_at, state_at}
 use Rattle.config_node.specs.Ends.{AreEnds, Objects, controller, end_at, low_of, posts_of, whom_at}

@@ -21,7 +21,7 @@ use Rattle.config_types.specs.declared.topology.Topology.{Topology}
 use Rattle.config_check.specs.Checked.{Checked}
 use Rattle.config_check.specs.Rules.{first_broken}
 use Rattle.schema_transform.specs.TransformModel.Objects.{port_object}
-use Rattle.node_items.specs.Told.{AllFit}
+use Rattle.node_core.specs.Told.{AllFit}
 use Rattle.node_core.specs.NodeModel.Keys.{Key, Low, key_cmp}
 use Rattle.node_core.specs.NodeModel.Maps.{Map}
 use Rattle.node_core.specs.NodeModel.Values.{Object, Value}

@@ -16,8 +16,8 @@ use Rattle.ov_types.specs.contracts.objects.LowValuePartialEq.TheImpl as low_val
 use Rattle.ov_types.proofs.Values.{objects}
 use Rattle.ov_types.specs.declared.objects.LowKey.{LowKey}
 use Rattle.ov_types.specs.declared.objects.LowValue.{LowValue}
-use Rattle.node_items.specs.Told.{AllFit, ChangeFits}
-use Rattle.node_items.proofs.Maps.{difference_fits}
+use Rattle.node_core.specs.Told.{AllFit, ChangeFits}
+use Rattle.node_core.proofs.Maps.{difference_fits}
 use Rattle.node_core.specs.NodeModel.Keys.{Low}
 use Rattle.node_core.specs.NodeModel.Maps.{Change, difference}
 use Rattle.node_core.specs.NodeModel.Values.{Object}

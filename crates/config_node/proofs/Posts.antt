@@ -24,11 +24,11 @@ use Rattle.item_wire.specs.declared.input.Came.TheVariants.{Closed}
 use Rattle.config_check.specs.Checked.{Checked}
 use Rattle.node_core.specs.Plans.{ArePlans}
 use Rattle.node_core.specs.declared.ends.Plan.{Plan}
-use Rattle.node_items.specs.Beginning.{phase_of}
-use Rattle.node_items.specs.Told.{AllFit, Fits, spelled}
+use Rattle.node_core.specs.Beginning.{phase_of}
+use Rattle.node_core.specs.Told.{AllFit, Fits, spelled}
 use Rattle.node_core.specs.NodeModel.Keys.{Low, key_cmp}
 use Rattle.node_core.specs.NodeModel.Maps.{Change, Map, difference}
-use Rattle.node_items.proofs.States.{closes}
+use Rattle.node_core.proofs.States.{closes}
 use Rattle.node_core.proofs.Lists.{all-at, all-set}
 use Rattle.node_core.specs.NodeModel.Step.{Post, changes, nothing, post, told_all}
 use Rattle.node_core.specs.NodeModel.Values.{Object, same_value}

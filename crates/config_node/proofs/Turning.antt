@@ -14,8 +14,8 @@ use Rattle.node_core.specs.declared.ends.Plan.{Plan}
 use Rattle.node_core.specs.NodeModel.Keys.{Low, key_cmp}
 use Rattle.node_core.specs.NodeModel.Values.{Object}
 use Rattle.node_core.proofs.NodeModel.Directions.{low_exact, low_total}
-use Rattle.node_items.specs.Beginning.{phase_of}
-use Rattle.node_items.specs.Told.{AllFit}
+use Rattle.node_core.specs.Beginning.{phase_of}
+use Rattle.node_core.specs.Told.{AllFit}
 use Rattle.config_node.specs.Ends.{HasSent, Objects, end_at, low_of, low_order}
 use Rattle.config_node.specs.Planning.{AreEndsTold, IsEndTold, plan_of, sends, told_end}
 use Rattle.config_node.specs.declared.ends.FeedEnd.{FeedEnd}

@@ -8,8 +8,8 @@ use Rattle.item_wire.specs.Happenings.{SessionFields}
 use Rattle.item_wire.specs.declared.event.ItemCause.{ItemCause}
 use Rattle.item_wire.specs.declared.event.ItemFrom.TheVariants as From
 use Rattle.config_check.specs.Checked.{Checked}
-use Rattle.node_items.specs.Beginning as item
-pub use Rattle.node_items.specs.Beginning.{state_at}
+use Rattle.node_core.specs.Beginning as item
+pub use Rattle.node_core.specs.Beginning.{state_at}
 pub use Rattle.node_core.specs.NodeModel.Naming.{no_node}
 use Rattle.node_core.specs.NodeModel.Step.{Beginning, Phase, Post}
 use Rattle.transform_record_laws.specs.MachineModel.Network.{config}

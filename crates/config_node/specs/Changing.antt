@@ -10,7 +10,7 @@ use Rattle.ov_types.specs.declared.objects.LowKey.{LowKey}
 use Rattle.ov_types.specs.declared.objects.LowValue.{LowValue}
 use Rattle.config_types.specs.declared.config.Port.{Port}
 use Rattle.config_check.specs.Checked.{Checked}
-use Rattle.node_items.specs.Told.{AllFit}
+use Rattle.node_core.specs.Told.{AllFit}
 use Rattle.node_core.specs.NodeModel.Keys.{Low}
 use Rattle.node_core.specs.NodeModel.Values.{Object}
 use Rattle.transform_record_laws.specs.MachineModel.Setup.{low_in}

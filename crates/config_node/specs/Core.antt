@@ -3,7 +3,7 @@ use Rattle.std.specs.Prelude.{ℕ, List, length, Bool, false, refl}
 use Rattle.std.specs.Coded.{Coded, code_by, coded×, coded_bool, coded_list, coded_ℕ}
 use Rattle.config_check.specs.Checked.{Checked}
 use Rattle.config_check.specs.contracts.valid.Valid as valid
-use Rattle.node_items.specs.Told.{spelled}
+use Rattle.node_core.specs.Told.{spelled}
 use Rattle.node_core.specs.NodeModel.Codes.{coded_post}
 use Rattle.node_core.specs.NodeModel.Maps.{Map}
 pub use Rattle.node_core.specs.Keeping.{AreFew, AreOfLive, AreSwept, kept_at, nothing_kept}

@@ -15,8 +15,8 @@ use Rattle.item_wire.specs.declared.event.ItemFrom.{ItemFrom}
 use Rattle.item_wire.specs.declared.event.ItemFrom.TheVariants.{Nothing}
 use Rattle.config_check.specs.Checked.{Checked}
 use Rattle.config_check.specs.contracts.valid.Valid as valid
-use Rattle.node_items.specs.Beginning.{phase_of}
-use Rattle.node_items.specs.Told.{AllFit}
+use Rattle.node_core.specs.Beginning.{phase_of}
+use Rattle.node_core.specs.Told.{AllFit}
 use Rattle.node_core.specs.NodeModel.Codes.{coded_post}
 pub use Rattle.node_core.specs.NodeModel.Directions.{low_order}
 use Rattle.node_core.specs.NodeModel.Keys.{Low, key_cmp}

@@ -2,8 +2,8 @@
 use Rattle.std.specs.Prelude.{◌≡◌, List, [], ◌∷◌, map, Bool, not, if◌then◌else◌}
 use Rattle.std.specs.declared.option.Option.TheVariants.{None}
 use Rattle.node_core.specs.declared.ends.Plan.{Plan}
-use Rattle.node_items.specs.Beginning.{phase_of}
-use Rattle.node_items.specs.Told.{spelled}
+use Rattle.node_core.specs.Beginning.{phase_of}
+use Rattle.node_core.specs.Told.{spelled}
 use Rattle.node_core.specs.NodeModel.Maps.{difference}
 use Rattle.node_core.specs.NodeModel.Step.{Post}
 use Rattle.config_node.specs.Core.{is_idle}

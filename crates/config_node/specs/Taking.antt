@@ -4,9 +4,9 @@ use Rattle.item_wire.specs.Happenings.{SessionFields}
 use Rattle.item_wire.specs.declared.event.ItemCause.{ItemCause}
 use Rattle.item_wire.specs.declared.input.Came.{Came}
 use Rattle.config_check.specs.Checked.{Checked}
-use Rattle.node_items.specs.Hearing.{heard}
-use Rattle.node_items.specs.Keeping.{Leaves}
-use Rattle.node_items.specs.Taking as item
+use Rattle.node_core.specs.Hearing.{heard}
+use Rattle.node_core.specs.Left.{Leaves}
+use Rattle.node_core.specs.Taking as item
 use Rattle.node_core.specs.NodeModel.Step.{Post}
 use Rattle.config_node.specs.Beginning.{session_at}
 

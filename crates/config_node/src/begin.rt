@@ -15,8 +15,7 @@ ghost use Rattle.config_node.specs.Taking.{HasHeard, HasTaken};
 
 use crate::ends::ConfigEnds;
 use item_wire::{ItemCause, ItemSession};
-use node_core::{Ends, Started};
-use node_items::{HeardRecords, config_name, greet, hear};
+use node_core::{Ends, HeardRecords, Started, config_name, greet, hear};
 use ov_link::Input;
 use ov_types::{Items, NoMemory};
 use std::alloc::Global;

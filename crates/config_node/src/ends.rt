@@ -4,7 +4,7 @@ ghost use Rattle.config_types.specs.Form.{has_config_form, has_topology_form};
 ghost use Rattle.config_check.specs.Rules.{first_broken};
 ghost use Rattle.item_wire.specs.Happenings.{after};
 ghost use Rattle.item_wire.specs.declared.input.Came.TheVariants.{Closed};
-ghost use Rattle.node_items.specs.Beginning.{phase_of};
+ghost use Rattle.node_core.specs.Beginning.{phase_of};
 ghost use Rattle.config_node.specs.Core.{is_idle, nothings, sessions};
 ghost use Rattle.config_node.specs.Ends.{doubted, new_end};
 
@@ -74,7 +74,7 @@ impl Model for ConfigEnds {
 impl Ends for ConfigEnds {
     ghost use Rattle.std.specs.Prelude.{◌≡◌, refl};
     ghost use Rattle.std.proofs.Common.{◌∙◌};
-    ghost use Rattle.node_items.proofs.Begun.{behind};
+    ghost use Rattle.node_core.proofs.Begun.{behind};
     ghost use Rattle.node_core.specs.NodeModel.Naming.{config};
     ghost use Rattle.config_node.specs.Beginning.{BeginsKeeping, session_at};
     ghost use Rattle.config_node.specs.Core.{kind};

@@ -4,7 +4,7 @@ ghost use Rattle.std.specs.List.{All, AllByRecursion, cons_option};
 ghost use Rattle.ov_sync.specs.Embed.{moved_delta};
 ghost use Rattle.ov_sync.specs.Keyed.{AgreeBut, map_of};
 ghost use Rattle.ov_types.specs.declared.objects.LowKey.{LowKey as Key};
-ghost use Rattle.node_items.specs.Told.{AllFit, ChangeFits, spelled};
+ghost use Rattle.node_core.specs.Told.{AllFit, ChangeFits, spelled};
 ghost use Rattle.node_core.specs.NodeModel.Keys.{Low};
 ghost use Rattle.node_core.specs.NodeModel.Maps.{difference};
 ghost use Rattle.node_core.specs.NodeModel.Values.{Object};
@@ -13,8 +13,7 @@ ghost use Rattle.config_node.specs.Planning.{AreEndsTold, IsEndTold, plan_of, se
 
 use crate::ends::FeedEnd;
 use crate::wants::{Objects, wanted_of};
-use node_core::Plan;
-use node_items::spell_low;
+use node_core::{Plan, spell_low};
 use ov_sync::{Delta, SyncOut};
 use ov_types::{Items, LowKey, LowValue, NoMemory};
 use std::alloc::Global;

@@ -14,7 +14,7 @@ use Rattle.ov_types.specs.declared.keys.DownValue.{DownValue}
 use Rattle.ov_types.specs.declared.keys.DownValue.TheVariants as Told
 use Rattle.ov_types.specs.declared.vpn.VpnKey.{VpnKey}
 use Rattle.ov_types.specs.declared.vpn.VpnRoute.{VpnRoute}
-use Rattle.node_items.specs.Told.{down_of, down_value}
+use Rattle.node_core.specs.Told.{down_of, down_value}
 use Rattle.vpn_tables.specs.NodeModel.Directions.{down_order, vpn_order}
 use Rattle.vpn_tables.specs.NodeModel.Keys.{Vpn, of_down}
 use Rattle.vpn_tables.specs.NodeModel.Values.{Route, same_value}

@@ -1,5 +1,5 @@
 -- The files of definitions, in the order in which they stand on each other.
-pub mod NodeItems
+pub mod NodeCore
 pub mod Marks
 pub mod ControlChangeLaws
 pub mod Wanted

@@ -9,7 +9,7 @@ use Rattle.ov_types.specs.declared.keys.DownKey.{DownKey}
 use Rattle.ov_types.specs.declared.keys.DownValue.{DownValue}
 use Rattle.ov_types.specs.declared.vpn.VpnKey.{VpnKey}
 use Rattle.ov_types.specs.declared.vpn.VpnRoute.{VpnRoute}
-use Rattle.control_marks.specs.NodeItems.Told.{down_value}
+use Rattle.control_marks.specs.NodeCore.Told.{down_value}
 use Rattle.vpn_tables.specs.NodeModel.Directions.{down_order, vpn_order}
 use Rattle.vpn_tables.specs.NodeModel.Keys.{Key, Vpn, of_down}
 use Rattle.vpn_tables.specs.NodeModel.Maps.{Map}

@@ -2,7 +2,7 @@
 ghost use Rattle.std.specs.Prelude.{◌≡◌, ◌++◌, [], ◌∷◌, false, map, IfOk, OnErr, OnOk};
 ghost use Rattle.std.specs.List.{AllByRecursion};
 ghost use Rattle.ov_sync.specs.Embed.{moved_delta};
-ghost use Rattle.control_marks.specs.NodeItems.Told.{down_of, down_value};
+ghost use Rattle.control_marks.specs.NodeCore.Told.{down_of, down_value};
 ghost use Rattle.vpn_tables.specs.NodeModel.Keys.{of_down};
 ghost use Rattle.vpn_tables.specs.NodeModel.Maps.{difference};
 ghost use Rattle.vpn_tables.specs.NodeModel.Members.{Member};

@@ -6,7 +6,7 @@ ghost use Rattle.std.specs.List.Sorted.{IsStrictlySortedBy};
 ghost use Rattle.std.specs.Option.{option_map};
 ghost use Rattle.ov_sync.specs.Embed.{moved_delta};
 ghost use Rattle.ov_sync.specs.Keyed.{AgreeBut, change, set_key};
-ghost use Rattle.node_items.specs.Told.{down_of, down_order, down_value};
+ghost use Rattle.node_core.specs.Told.{down_of, down_order, down_value};
 ghost use Rattle.vpn_tables.specs.NodeModel.Keys.{of_down};
 ghost use Rattle.vpn_tables.specs.NodeModel.Maps.{Map, difference};
 ghost use Rattle.vpn_tables.specs.NodeModel.Values.{same_value};

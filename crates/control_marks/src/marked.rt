@@ -2,7 +2,7 @@
 ghost use Rattle.std.specs.Prelude.{◌≡◌, None, is_some, if◌then◌else◌, IfOk};
 ghost use Rattle.std.specs.FinMap.{get};
 ghost use Rattle.std.specs.Option.{option_map};
-ghost use Rattle.control_marks.specs.NodeItems.Told.{down_value};
+ghost use Rattle.control_marks.specs.NodeCore.Told.{down_value};
 ghost use Rattle.vpn_tables.specs.NodeModel.Keys.{Subscribe, of_down};
 ghost use Rattle.vpn_tables.specs.NodeModel.Values.{Entry as EntryOf};
 ghost use Rattle.control_wants.specs.Entries.{hop_of};

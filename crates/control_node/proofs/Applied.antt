@@ -26,9 +26,9 @@ use Rattle.item_wire.specs.Entries.{is_from_to}
 use Rattle.item_wire.specs.Ranges.{is_block, is_hop, is_network}
 use Rattle.item_wire.specs.declared.item.Item.{Item}
 use Rattle.item_wire.specs.declared.item.Item.TheVariants as I
-use Rattle.node_items.specs.Told.{AllFit, ChangeFits, IsWritable, change_of}
-use Rattle.node_items.proofs.Changes.{read_fits}
-use Rattle.node_items.proofs.Maps.{changed_fits}
+use Rattle.node_core.specs.Told.{AllFit, ChangeFits, IsWritable, change_of}
+use Rattle.node_core.proofs.Changes.{read_fits}
+use Rattle.node_core.proofs.Maps.{changed_fits}
 use Rattle.node_core.specs.NodeModel.Keys.{Low, Vpn, of_up}
 use Rattle.node_core.specs.NodeModel.Maps.{Map, Change}
 use Rattle.node_core.specs.NodeModel.Paths.{Holdings, Told}

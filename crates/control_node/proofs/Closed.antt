@@ -7,8 +7,8 @@ use Rattle.ov_sync.proofs.Ascending.{entries-empty}
 use Rattle.ov_types.specs.declared.keys.DownKey.{DownKey}
 use Rattle.ov_types.specs.declared.keys.DownValue.{DownValue}
 use Rattle.item_wire.specs.declared.event.ItemState.{ItemState}
-use Rattle.node_items.specs.Told.{AllFit, down_of, down_order, down_value}
-use Rattle.node_items.proofs.Maps.{nothing_fits}
+use Rattle.node_core.specs.Told.{AllFit, down_of, down_order, down_value}
+use Rattle.node_core.proofs.Maps.{nothing_fits}
 use Rattle.node_core.specs.NodeModel.Keys.{key_cmp, of_down}
 use Rattle.node_core.specs.NodeModel.Maps.{Map}
 use Rattle.node_core.specs.NodeModel.Paths.{Holdings, Told}

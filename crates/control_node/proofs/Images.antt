@@ -11,7 +11,7 @@ use Rattle.ov_types.specs.declared.keys.DownValue.{DownValue}
 use Rattle.ov_types.specs.declared.vpn.VpnKey.{VpnKey}
 use Rattle.ov_types.specs.declared.vpn.VpnRoute.{VpnRoute}
 use Rattle.bgp_session.specs.BgpVpn.Written.{IfPut}
-use Rattle.node_items.specs.Told.{ChangeFits, down_value}
+use Rattle.node_core.specs.Told.{ChangeFits, down_value}
 use Rattle.node_core.specs.NodeModel.Keys.{Vpn, of_down}
 use Rattle.node_core.specs.NodeModel.Maps.{Change, Map, difference}
 use Rattle.node_core.specs.NodeModel.Values.{Route}

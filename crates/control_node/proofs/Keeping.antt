@@ -10,8 +10,8 @@ use Rattle.ov_sync.proofs.KeyedLaws.{empty_values}
 use Rattle.ov_types.specs.declared.prefix.Addr.{Addr}
 use Rattle.ov_types.specs.declared.rows.NodeId.{NodeId}
 use Rattle.item_wire.specs.Happenings.{SessionFields}
-use Rattle.node_items.specs.Told.{AllFit}
-use Rattle.node_items.proofs.Maps.{nothing_fits}
+use Rattle.node_core.specs.Told.{AllFit}
+use Rattle.node_core.proofs.Maps.{nothing_fits}
 use Rattle.node_core.specs.NodeModel.Keys.{key_cmp}
 use Rattle.node_core.specs.NodeModel.Values.{Value}
 use Rattle.node_core.specs.NodeModel.Maps.{Map}

@@ -17,7 +17,7 @@ use Rattle.item_wire.specs.Happenings.{SessionFields, idle_session}
 use Rattle.item_wire.specs.declared.event.ItemFrom.TheVariants as From
 use Rattle.item_wire.specs.declared.event.ItemState.TheVariants as ItemState
 use Rattle.control_wants.specs.Held.{RouteFits}
-use Rattle.node_items.specs.Told.{AllFit}
+use Rattle.node_core.specs.Told.{AllFit}
 use Rattle.node_core.specs.NodeModel.Keys.{Key, Vpn, key_cmp}
 use Rattle.node_core.specs.NodeModel.Maps.{Map}
 use Rattle.node_core.specs.NodeModel.Paths.{Holdings, Told}
@@ -34,7 +34,7 @@ use Rattle.control_node.specs.declared.ends.AgentEnd.{AgentEnd}
 use Rattle.control_node.specs.declared.ends.PeerEnd.{PeerEnd}
 use Rattle.control_node.specs.declared.plan.ControlPlan.{ControlPlan}
 use Rattle.control_node.proofs.Closed.{down-empty}
-use Rattle.node_items.proofs.Maps.{nothing_fits}
+use Rattle.node_core.proofs.Maps.{nothing_fits}
 
 -- ---- places in the tables
 none_left : (k : Key) → remove {X = Value} {R = key_cmp} empty k ≡ empty

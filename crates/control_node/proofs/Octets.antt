@@ -12,8 +12,8 @@ use Rattle.bgp_session.specs.declared.event.Cause.{Cause as PeerCause}
 use Rattle.bgp_session.specs.declared.event.Cause.TheVariants.{Ended as PeerEnded}
 use Rattle.item_wire.specs.declared.event.ItemCause.{ItemCause}
 use Rattle.item_wire.specs.declared.event.ItemCause.TheVariants.{Ended as ItemEnded}
-use Rattle.node_items.proofs.Begun as items
-use Rattle.node_items.proofs.NotEnded as item_causes
+use Rattle.node_core.proofs.Begun as items
+use Rattle.node_core.proofs.NotEnded as item_causes
 use Rattle.node_routes.specs.Beginning as route
 use Rattle.node_routes.proofs.Cutting as route_cutting
 use Rattle.node_routes.proofs.NotEnded as route_causes

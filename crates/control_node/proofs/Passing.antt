@@ -15,8 +15,8 @@ use Rattle.item_wire.specs.declared.event.ItemState.{ItemState}
 use Rattle.control_wants.specs.Held.{told_in}
 use Rattle.node_core.specs.Plans.{ArePlans}
 use Rattle.node_core.specs.declared.ends.Plan.{Plan}
-use Rattle.node_items.specs.Beginning as item
-use Rattle.node_items.specs.Told as items
+use Rattle.node_core.specs.Beginning as item
+use Rattle.node_core.specs.Told as items
 use Rattle.node_core.specs.NodeModel.Maps.{Map, Change, difference}
 use Rattle.node_core.specs.NodeModel.Paths.{Holdings, Told}
 use Rattle.node_core.specs.NodeModel.Step.{NodeKind, Post, changes, post, told_all}

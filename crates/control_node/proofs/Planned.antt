@@ -14,8 +14,8 @@ use Rattle.ov_types.specs.declared.vpn.VpnRoute.{VpnRoute}
 use Rattle.bgp_session.specs.Happenings.{SessionFields}
 use Rattle.control_wants.specs.Held.{told_in}
 use Rattle.node_core.specs.declared.ends.Plan.{Plan}
-use Rattle.node_items.specs.Told.{AllFit, Fits, down_of, down_value}
-use Rattle.node_items.specs.Told as items
+use Rattle.node_core.specs.Told.{AllFit, Fits, down_of, down_value}
+use Rattle.node_core.specs.Told as items
 use Rattle.node_core.specs.NodeModel.Keys.{Vpn, key_cmp, of_down}
 use Rattle.node_core.specs.NodeModel.Maps.{Map, Change, difference}
 use Rattle.node_core.specs.NodeModel.Paths.{Holdings, Told}

@@ -10,8 +10,8 @@ use Rattle.ov_types.specs.declared.rows.NodeId.{NodeId}
 use Rattle.item_wire.specs.Happenings.{SessionFields}
 use Rattle.control_wants.specs.Held.{HoldingsFit}
 use Rattle.node_core.proofs.Lists.{all-set}
-use Rattle.node_items.specs.Told.{AllFit}
-use Rattle.node_items.proofs.Maps.{nothing_fits}
+use Rattle.node_core.specs.Told.{AllFit}
+use Rattle.node_core.proofs.Maps.{nothing_fits}
 use Rattle.node_core.specs.NodeModel.Maps.{Map}
 use Rattle.node_core.specs.NodeModel.Paths.{Holdings, Told}
 use Rattle.node_core.specs.NodeModel.Step.{Post, nothing}

@@ -8,7 +8,7 @@ use Rattle.std.proofs.Common.{refl, arith}
 use Rattle.ov_types.specs.Keys.{row_key_cmp}
 use Rattle.ov_types.specs.declared.objects.LowKey.TheVariants as key
 use Rattle.ov_types.specs.declared.objects.LowValue.{LowValue}
-use Rattle.node_items.specs.Told.{AllFit}
+use Rattle.node_core.specs.Told.{AllFit}
 use Rattle.node_core.specs.NodeModel.Keys.{Low}
 use Rattle.node_core.specs.NodeModel.Values.{Value, Object, Route, Entry, Label}
 use Rattle.node_core.specs.NodeModel.Maps.{Map, as_object}

@@ -19,9 +19,9 @@ use Rattle.item_wire.specs.Records.{spelling}
 use Rattle.item_wire.specs.declared.event.ItemCause.{ItemCause}
 use Rattle.item_wire.specs.declared.event.ItemState.{ItemState}
 use Rattle.item_wire.specs.declared.item.Item.TheVariants.{Hello}
-use Rattle.node_items.specs.Beginning as item
-use Rattle.node_items.specs.Hearing as item_hearing
-use Rattle.node_items.specs.Told.{AllFit, change_of, down_of}
+use Rattle.node_core.specs.Beginning as item
+use Rattle.node_core.specs.Hearing as item_hearing
+use Rattle.node_core.specs.Told.{AllFit, change_of, down_of}
 use Rattle.node_core.specs.NodeModel.Keys.{Vpn}
 use Rattle.node_core.specs.NodeModel.Maps.{Change}
 use Rattle.node_core.specs.NodeModel.Paths.{Holdings}

@@ -18,7 +18,7 @@ use Rattle.ov_types.specs.declared.keys.DownValue.{DownValue}
 use Rattle.ov_types.specs.declared.rows.NodeId.{NodeId}
 use Rattle.ov_types.specs.declared.vpn.VpnKey.{VpnKey}
 use Rattle.ov_types.specs.declared.vpn.VpnRoute.{VpnRoute}
-use Rattle.node_items.specs.Beginning as item
+use Rattle.node_core.specs.Beginning as item
 use Rattle.node_core.specs.NodeModel.Maps.{Map}
 use Rattle.node_core.specs.NodeModel.Paths.{Holdings, Told}
 use Rattle.node_core.specs.NodeModel.Step.{Beginning, Post, post}

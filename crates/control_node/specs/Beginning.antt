@@ -12,7 +12,7 @@ use Rattle.item_wire.specs.Happenings as items
 use Rattle.item_wire.specs.declared.event.ItemCause.{ItemCause}
 use Rattle.item_wire.specs.declared.event.ItemFrom.TheVariants as From
 use Rattle.item_wire.specs.declared.event.ItemState.{ItemState}
-use Rattle.node_items.specs.Beginning as item
+use Rattle.node_core.specs.Beginning as item
 use Rattle.node_routes.specs.Beginning as route
 pub use Rattle.node_core.specs.NodeModel.Naming.{config, no_node}
 use Rattle.node_core.specs.NodeModel.Step.{Beginning, Phase, Idle, Opened, Confirmed, Up, Post}

@@ -8,7 +8,7 @@ use Rattle.ov_types.specs.declared.prefix.Addr.{Addr}
 use Rattle.bgp_session.specs.Happenings as peers
 use Rattle.bgp_session.specs.declared.event.Cause.{Cause as PeerCause}
 use Rattle.node_core.specs.Keeping.{IsBehind}
-use Rattle.node_items.proofs.Begun as items
+use Rattle.node_core.proofs.Begun as items
 use Rattle.node_core.specs.NodeModel.Step.{Beginning, Post}
 use Rattle.node_routes.specs.Beginning as route
 use Rattle.node_routes.specs.Keeping.{Leaves}

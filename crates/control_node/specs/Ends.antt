@@ -10,8 +10,8 @@ use Rattle.item_wire.specs.Happenings.{SessionFields}
 use Rattle.item_wire.specs.declared.event.ItemFrom.TheVariants as From
 use Rattle.item_wire.specs.declared.event.ItemState.{ItemState}
 use Rattle.control_wants.specs.Held.{HoldingsFit}
-use Rattle.node_items.specs.Beginning as item
-use Rattle.node_items.specs.Told.{AllFit, down_of}
+use Rattle.node_core.specs.Beginning as item
+use Rattle.node_core.specs.Told.{AllFit, down_of}
 use Rattle.node_core.specs.NodeModel.Codes.{coded_post}
 use Rattle.node_core.specs.NodeModel.Maps.{Map}
 use Rattle.node_core.specs.NodeModel.Paths.{Holdings, Told}

@@ -1,8 +1,8 @@
 -- What the ends of a control node's sessions are told in a pass.
 use Rattle.std.specs.Prelude.{◌≡◌, ℕ, suc, ◌+◌, List, [], ◌∷◌, ◌++◌, map, length, Bool, not, if◌then◌else◌}
 use Rattle.node_core.specs.declared.ends.Plan.{Plan}
-use Rattle.node_items.specs.Beginning as item
-use Rattle.node_items.specs.Told as items
+use Rattle.node_core.specs.Beginning as item
+use Rattle.node_core.specs.Told as items
 use Rattle.node_core.specs.NodeModel.Maps.{Map, Change, difference}
 use Rattle.node_core.specs.NodeModel.Paths.{Holdings}
 use Rattle.node_core.specs.NodeModel.Wants.{wanted_by_peers}

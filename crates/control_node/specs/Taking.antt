@@ -14,9 +14,9 @@ use Rattle.bgp_session.specs.declared.event.Cause.{Cause as PeerCause}
 use Rattle.item_wire.specs.Happenings as items
 use Rattle.item_wire.specs.declared.event.ItemCause.{ItemCause}
 use Rattle.item_wire.specs.declared.input.Came.{Came}
-use Rattle.node_items.specs.Hearing as item
-use Rattle.node_items.specs.Keeping as kept_items
-use Rattle.node_items.specs.Told.{change_of}
+use Rattle.node_core.specs.Hearing as item
+use Rattle.node_core.specs.Left as kept_items
+use Rattle.node_core.specs.Told.{change_of}
 use Rattle.node_core.specs.NodeModel.Maps.{Map, Change}
 use Rattle.node_core.specs.NodeModel.Paths.{Holdings}
 use Rattle.node_routes.specs.Hearing as route

@@ -3,7 +3,7 @@ use Rattle.std.specs.Prelude.{◌≡◌, ◌+◌, ℕ, suc, List, [], ◌∷◌,
 use Rattle.std.specs.List.{AllByRecursion}
 use Rattle.ov_types.specs.declared.rows.NodeId.{NodeId}
 use Rattle.item_wire.specs.Happenings.{SessionFields}
-use Rattle.node_items.specs.Told.{down_of}
+use Rattle.node_core.specs.Told.{down_of}
 use Rattle.node_core.specs.NodeModel.Paths.{Holdings}
 use Rattle.vpn_tables.specs.Views.{peer_of}
 use Rattle.control_marks.specs.Marks.{Covered, IsWithin, Marks}

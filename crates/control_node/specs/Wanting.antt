@@ -2,7 +2,7 @@
 use Rattle.std.specs.Prelude.{◌≡◌, ℕ, List, Bool, true, false, not, ◌==◌, if◌then◌else◌, refl}
 use Rattle.std.specs.FinMap.{empty}
 use Rattle.control_wants.specs.Held.{told_in}
-use Rattle.node_items.specs.Told as items
+use Rattle.node_core.specs.Told as items
 use Rattle.node_core.specs.NodeModel.Maps.{Map, Change}
 pub use Rattle.node_core.specs.Resting.{is_idle, is_up}
 use Rattle.node_core.specs.NodeModel.Step.{NodeKind, Phase, Post, Idle}

@@ -47,7 +47,7 @@ impl ControlEnds {
         ensures begun { IfOk result (λ replies. IsBegun self.old.plan self.old.posts session (input.Opened session)
             replies None [] self.new.posts) }
     {
-        let replies = node_items::greet(self.alloc, &mut self.feed, &self.me.name)?;
+        let replies = node_core::greet(self.alloc, &mut self.feed, &self.me.name)?;
         Ok(replies)
     }
 

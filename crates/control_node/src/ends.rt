@@ -1,7 +1,7 @@
 //! The ends of a control node's sessions.
 ghost use Rattle.std.specs.Prelude.{◌≡◌, length, not, refl};
 ghost use Rattle.std.proofs.Common.{◌∙◌};
-ghost use Rattle.node_items.specs.Beginning as item;
+ghost use Rattle.node_core.specs.Beginning as item;
 ghost use Rattle.node_routes.specs.Beginning as route;
 ghost use Rattle.control_node.specs.Beginning.{BeginsKeeping};
 ghost use Rattle.control_node.specs.Behind.{begins_behind};

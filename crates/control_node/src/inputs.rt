@@ -54,7 +54,7 @@ pub(crate) fn greet_agent(
     ensures opened { end.new ≡ opened_agent end.old }
     ensures hello { IfOk result (λ replies. replies ≡ spelling (Hello me.now) ∷ []) }
 {
-    node_items::greet(alloc, &mut end.session, me)
+    node_core::greet(alloc, &mut end.session, me)
 }
 
 /// What octets of the feed or of an agent brought, but for the changes.
@@ -83,7 +83,7 @@ pub(crate) fn hear_from_feed(
     ensures stays { StaysHeld tables.old tables.new }
     ensures marked { AreMarked dirty.old dirty.new tables.old tables.new }
 {
-    let heard = node_items::hear(alloc, feed, bytes)?;
+    let heard = node_core::hear(alloc, feed, bytes)?;
     match heard.cause {
         Some(cause) => Ok(HeardItems {
             taken: heard.taken,
@@ -132,7 +132,7 @@ pub(crate) fn hear_from_agent(
     ensures marked { AreMarked dirty.old dirty.new tables.old tables.new }
 {
     mark_silent_agent(dirty, end);
-    let heard = node_items::hear(alloc, &mut end.session, bytes)?;
+    let heard = node_core::hear(alloc, &mut end.session, bytes)?;
     match heard.cause {
         Some(cause) => Ok(HeardItems {
             taken: heard.taken,

@@ -3,7 +3,7 @@ ghost use Rattle.std.specs.Prelude.{◌≡◌, map, IfOk};
 ghost use Rattle.std.specs.List.Sorted.{IsStrictlySortedBy};
 ghost use Rattle.ov_types.specs.Keys.{row_key_cmp};
 ghost use Rattle.node_core.specs.Resting.{end_at};
-ghost use Rattle.node_items.specs.Beginning as item;
+ghost use Rattle.node_core.specs.Beginning as item;
 ghost use Rattle.node_core.specs.NodeModel.Tables.{rows as rows_of};
 ghost use Rattle.node_routes.specs.Beginning as route;
 ghost use Rattle.control_node.specs.Core.{holdings};

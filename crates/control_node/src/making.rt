@@ -9,7 +9,7 @@ use crate::plan::ControlPlan;
 use bgp_session::Session;
 use control_marks::Dirty;
 use item_wire::{ItemFrom, ItemSession};
-use node_items::config_name;
+use node_core::config_name;
 use ov_sync::{Delta, SyncOut};
 use ov_types::{Addr, NoMemory, NodeId, Prefix, Rd, VpnKey};
 use std::alloc::Global;

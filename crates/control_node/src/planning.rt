@@ -5,7 +5,7 @@ ghost use Rattle.ov_sync.specs.Embed.{moved_delta};
 ghost use Rattle.bgp_session.specs.BgpVpn.Written.{IfPut};
 ghost use Rattle.node_core.specs.NodeModel.Keys.{Vpn, of_down};
 ghost use Rattle.node_core.specs.NodeModel.Values.{Route};
-ghost use Rattle.node_items.specs.Told.{ChangeFits, down_value, spelled as spelled_item};
+ghost use Rattle.node_core.specs.Told.{ChangeFits, down_value, spelled as spelled_item};
 ghost use Rattle.node_routes.specs.Told.{IsWritable, spelled as spelled_route};
 ghost use Rattle.control_wants.specs.Held.{HoldingsFit};
 ghost use Rattle.control_node.specs.Ends.{IsAgentEnd};
@@ -60,7 +60,7 @@ fn spell_items(
 {
     let mut messages = Vec::new(alloc);
     for delta in deltas {
-        messages.push(node_items::spell_down(alloc, delta)?)?;
+        messages.push(node_core::spell_down(alloc, delta)?)?;
     }
     Ok(Items::from_vec(messages))
 }

@@ -5,7 +5,7 @@ ghost use Rattle.ov_sync.specs.Embed.{moved_delta};
 ghost use Rattle.ov_sync.specs.Keyed.{after};
 ghost use Rattle.bgp_session.specs.BgpVpn.Written.{IfPut};
 ghost use Rattle.item_wire.specs.Inputs.{is_of_agent, is_of_feed};
-ghost use Rattle.node_items.specs.Told.{IsWritable, change_of};
+ghost use Rattle.node_core.specs.Told.{IsWritable, change_of};
 ghost use Rattle.node_core.specs.NodeModel.Keys.{Vpn};
 ghost use Rattle.node_core.specs.NodeModel.Values.{Route as RouteOf};
 ghost use Rattle.control_node.specs.Stays.{StaysHeld};
@@ -14,7 +14,7 @@ ghost use Rattle.control_node.specs.Tracking.{AreMarked};
 
 use control_marks::Dirty;
 use item_wire::Item;
-use node_items::{low_change, up_change};
+use node_core::{low_change, up_change};
 use ov_sync::Delta;
 use ov_types::{NoMemory, VpnKey, VpnRoute};
 use vpn_tables::VpnTables;

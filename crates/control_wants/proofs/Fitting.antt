@@ -22,11 +22,11 @@ use Rattle.ov_types.specs.declared.prefix.Addr.{Addr}
 use Rattle.ov_types.specs.declared.vpn.VpnKey.{VpnKey}
 use Rattle.ov_types.specs.declared.vpn.VpnRoute.{VpnRoute}
 use Rattle.route_targets.specs.Numbers.{target_of}
-use Rattle.node_items.specs.ItemWire.Ranges.{is_in_range, is_instance, is_attached_label}
-use Rattle.node_items.specs.ItemWire.Entries.{is_from_to}
-use Rattle.node_items.specs.ItemWire.Item.{Item}
-use Rattle.node_items.specs.ItemWire.Item.TheVariants as I
-use Rattle.node_items.specs.Told.{AllFit, Fits}
+use Rattle.node_core.specs.ItemWire.Ranges.{is_in_range, is_instance, is_attached_label}
+use Rattle.node_core.specs.ItemWire.Entries.{is_from_to}
+use Rattle.node_core.specs.ItemWire.Item.{Item}
+use Rattle.node_core.specs.ItemWire.Item.TheVariants as I
+use Rattle.node_core.specs.Told.{AllFit, Fits}
 use Rattle.node_routes.specs.NodeModel.Members.{Member}
 use Rattle.node_routes.specs.NodeModel.Keys.{Key, Low, Vpn, Row, Publish, Subscribe}
 use Rattle.node_routes.specs.NodeModel.Values.{Value, Object, Route, Entry, Label}

@@ -16,7 +16,7 @@ use Rattle.ov_types.specs.declared.prefix.Addr.{Addr}
 use Rattle.ov_types.specs.declared.rows.TableRow.{TableRow}
 use Rattle.ov_types.specs.declared.vpn.VpnKey.{VpnKey}
 use Rattle.ov_types.specs.declared.vpn.VpnRoute.{VpnRoute}
-use Rattle.node_items.specs.Told.{down_of, down_order, down_value}
+use Rattle.node_core.specs.Told.{down_of, down_order, down_value}
 use Rattle.node_routes.specs.NodeModel.Keys.{Key, Row, Vpn, key_cmp, of_down}
 use Rattle.node_routes.specs.NodeModel.Values.{Value, Entry, Route}
 use Rattle.node_routes.specs.NodeModel.Paths.{Holdings, Path, Told, own_paths}

@@ -2,7 +2,7 @@
 use Rattle.std.specs.Prelude.{◌<◌, ◌^◌}
 use Rattle.std.specs.List.{AllByRecursion}
 use Rattle.ov_sync.specs.Keyed.{Values}
-use Rattle.node_items.specs.Told.{AllFit}
+use Rattle.node_core.specs.Told.{AllFit}
 use Rattle.node_routes.specs.NodeModel.Keys.{Key, Vpn}
 use Rattle.node_routes.specs.NodeModel.Values.{Value, Route}
 use Rattle.node_routes.specs.NodeModel.Paths.{Holdings, Told}

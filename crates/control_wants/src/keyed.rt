@@ -2,7 +2,7 @@
 ghost use Rattle.std.specs.Prelude.{◌≡◌, ◌++◌, IfOk};
 ghost use Rattle.std.specs.Option.{option_map};
 ghost use Rattle.std.specs.FinMap.{get};
-ghost use Rattle.node_items.specs.Told.{down_value};
+ghost use Rattle.node_core.specs.Told.{down_value};
 ghost use Rattle.node_routes.specs.NodeModel.Keys.{Low, Row, Vpn, of_down};
 ghost use Rattle.node_routes.specs.NodeModel.Paths.{own_paths};
 ghost use Rattle.node_routes.specs.NodeModel.Reaching.{reoriginated_paths};

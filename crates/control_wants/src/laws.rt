@@ -3,7 +3,7 @@ ghost use Rattle.std.specs.Prelude.{◌≡◌, ◌<◌, ◌^◌, Some};
 ghost use Rattle.std.specs.FinMap.{get};
 ghost use Rattle.ov_types.specs.declared.vpn.VpnKey.{VpnKey};
 ghost use Rattle.ov_types.specs.declared.vpn.VpnRoute.{VpnRoute};
-ghost use Rattle.node_items.specs.Told.{AllFit};
+ghost use Rattle.node_core.specs.Told.{AllFit};
 ghost use Rattle.node_routes.specs.NodeModel.Keys.{Vpn};
 ghost use Rattle.node_routes.specs.NodeModel.Values.{Route};
 ghost use Rattle.node_routes.specs.NodeModel.Paths.{Holdings, Told};

@@ -1,6 +1,6 @@
 //! What a control node wants of what it holds.
 ghost use Rattle.std.specs.Prelude.{◌≡◌, IfOk};
-ghost use Rattle.node_items.specs.Told.{down_of};
+ghost use Rattle.node_core.specs.Told.{down_of};
 ghost use Rattle.node_routes.specs.NodeModel.Tables.{rows as rows_of};
 ghost use Rattle.node_routes.specs.NodeModel.Wants.{wanted_by_agent as wanted_by, wanted_by_peers as wanted_among};
 ghost use Rattle.vpn_tables.specs.Views.{peer_of};

@@ -7,7 +7,7 @@ ghost use Rattle.net_machine.specs.Seating.{peerings_of};
 
 use crate::ends::{SessionEnds, ends_of};
 use config_types::{Node, Topology};
-use node_items::config_name;
+use node_core::config_name;
 use ov_types::{Name, NoMemory, NodeId};
 use running_nodes::{Nodes, lists};
 use std::alloc::Global;

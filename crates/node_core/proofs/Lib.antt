@@ -7,5 +7,15 @@ pub mod Passing
 pub mod Told
 pub mod Closing
 pub mod Kept
+pub mod Fitting
+pub mod Changes
+pub mod Maps
+pub mod Records
+pub mod Hearings
+pub mod States
+pub mod Cutting
+pub mod NotEnded
+pub mod Begun
 pub mod NodeModel
 pub mod OvLink
+pub mod ItemWire

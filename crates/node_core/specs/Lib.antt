@@ -7,5 +7,11 @@ pub mod Keeping
 pub mod Naming
 pub mod Answers
 pub mod Whole
+pub mod Told
+pub mod Hearing
+pub mod Left
+pub mod Beginning
+pub mod Taking
 pub mod NodeModel
 pub mod OvLink
+pub mod ItemWire

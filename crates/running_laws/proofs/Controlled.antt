@@ -27,7 +27,7 @@ use Rattle.item_wire.specs.Ranges.{is_address, is_block, is_in_range}
 use Rattle.item_wire.specs.declared.event.ItemFrom.TheVariants as From
 use Rattle.item_wire.specs.declared.item.Item.TheVariants as I
 use Rattle.item_wire.specs.declared.item.Item.{Item}
-use Rattle.node_items.specs.Told.{AllFit, Fits, IsTyped}
+use Rattle.node_core.specs.Told.{AllFit, Fits, IsTyped}
 use Rattle.node_model.specs.Keys.{Key, Low, Publish, Vpn, key_cmp}
 use Rattle.node_model.specs.Maps.{Map, objects}
 use Rattle.node_model.specs.Members.{Member}

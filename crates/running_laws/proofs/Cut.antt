@@ -12,7 +12,7 @@ use Rattle.item_wire.specs.Happenings.{SessionFields}
 use Rattle.item_wire.specs.declared.event.ItemCause.{ItemCause}
 use Rattle.item_wire.specs.declared.event.ItemFrom.{ItemFrom}
 use Rattle.item_wire.specs.declared.event.ItemFrom.TheVariants as From
-use Rattle.node_items.specs.Beginning as item
+use Rattle.node_core.specs.Beginning as item
 use Rattle.node_model.specs.Maps.{Map}
 use Rattle.node_model.specs.Step.{Beginning, Phase, Idle, Opened, Confirmed, Up, Post, is_idle}
 use Rattle.running_model.specs.ConfigNode.Beginning as configuration

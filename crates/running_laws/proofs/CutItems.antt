@@ -21,12 +21,12 @@ use Rattle.item_wire.specs.declared.input.Came.{Came}
 use Rattle.node_model.specs.Maps.{Change, Map}
 use Rattle.node_model.specs.Step.{Beginning, Phase, Idle, Opened, Confirmed, Up, Post, is_idle}
 use Rattle.node_model.proofs.Members.{none_some}
-use Rattle.node_items.specs.Beginning.{BeginsKeeping, left_by, phase_of, state_at}
-use Rattle.node_items.specs.Hearing.{ItemHearing, heard}
-use Rattle.node_items.specs.Keeping.{Leaves, session_after}
-use Rattle.node_items.specs.Keeping as keeping
-use Rattle.node_items.specs.Told.{change_of}
-use Rattle.node_items.proofs.Cutting.{cut_down, cut_up, heard_of_both, leaves_one, live_after, nothing_left}
+use Rattle.node_core.specs.Beginning.{BeginsKeeping, left_by, phase_of, state_at}
+use Rattle.node_core.specs.Hearing.{ItemHearing, heard}
+use Rattle.node_core.specs.Left.{Leaves, session_after}
+use Rattle.node_core.specs.Left as keeping
+use Rattle.node_core.specs.Told.{change_of}
+use Rattle.node_core.proofs.Cutting.{cut_down, cut_up, heard_of_both, leaves_one, live_after, nothing_left}
 use Rattle.running_laws.specs.Cutting.{and_then, told, with_sent}
 
 state_back : (state : ItemState) → state_at (phase_of state) ≡ state

@@ -27,7 +27,7 @@ use Rattle.item_wire.specs.declared.framing.TooLong.{TooLong}
 use Rattle.item_wire.specs.declared.item.Item.{Item}
 use Rattle.item_wire.proofs.Cutting.{FrameIs, part_of, long_of, whole_of, read_frame}
 use Rattle.item_wire.proofs.Framed.{framed_is_read}
-use Rattle.node_items.specs.Told.{IsWritable}
+use Rattle.node_core.specs.Told.{IsWritable}
 use Rattle.running_model.specs.NodeRoutes.First.{ChangeFitsItsTypes}
 use Rattle.running_model.specs.NodeRoutes.Told.{IsWritable as IsWritableRoute}
 

@@ -12,9 +12,9 @@ use Rattle.item_wire.specs.declared.event.ItemFrom.TheVariants as From
 use Rattle.item_wire.specs.declared.event.ItemFrom.{ItemFrom}
 use Rattle.item_wire.specs.declared.item.Item.TheVariants as I
 use Rattle.item_wire.specs.declared.item.Item.{Item}
-use Rattle.node_items.specs.Told.{CanBeTold, Fits, IsTyped, change_of}
-use Rattle.node_items.proofs.Changes.{change_of_what_is_told, fits_told}
-use Rattle.node_items.proofs.Maps.{key_of_what_fits}
+use Rattle.node_core.specs.Told.{CanBeTold, Fits, IsTyped, change_of}
+use Rattle.node_core.proofs.Changes.{change_of_what_is_told, fits_told}
+use Rattle.node_core.proofs.Maps.{key_of_what_fits}
 use Rattle.node_model.specs.Keys.{Key, Low, Publish, Row, Subscribe, Vpn}
 use Rattle.node_model.specs.Maps.{Change}
 use Rattle.node_model.specs.Values.{Entry, Route, Value}

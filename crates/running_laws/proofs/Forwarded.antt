@@ -21,7 +21,7 @@ use Rattle.item_wire.specs.Ranges.{is_address, is_block, is_in_range, is_network
 use Rattle.item_wire.specs.declared.event.ItemFrom.TheVariants as From
 use Rattle.item_wire.specs.declared.item.Item.TheVariants as I
 use Rattle.item_wire.specs.declared.item.Item.{Item}
-use Rattle.node_items.specs.Told.{AllFit, Fits, IsTyped}
+use Rattle.node_core.specs.Told.{AllFit, Fits, IsTyped}
 use Rattle.node_model.specs.Agent.{Heard, Holdings, needed_by, publication, slice_in_use, wanted}
 use Rattle.node_model.specs.Keys.{Key, Low, key_cmp}
 use Rattle.node_model.specs.Members.{Member}

@@ -9,7 +9,7 @@ use Rattle.std.proofs.lemmas.Option.{same_Some}
 use Rattle.ov_types.specs.First.{same_name}
 use Rattle.ov_types.specs.declared.rows.NodeId.{NodeId}
 use Rattle.config_types.specs.declared.topology.Node.{Node}
-use Rattle.node_items.specs.Told as items
+use Rattle.node_core.specs.Told as items
 use Rattle.node_model.specs.Agent.{Heard}
 use Rattle.node_model.specs.Maps.{Change}
 use Rattle.node_model.specs.Members.{Member}

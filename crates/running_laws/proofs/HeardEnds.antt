@@ -39,9 +39,9 @@ use Rattle.node_model.specs.Members.{Member}
 use Rattle.node_model.specs.Step.{Beginning, Phase, Idle, Opened, Confirmed, Up, Post}
 use Rattle.node_model.specs.Values.{Route}
 use Rattle.node_model.proofs.Members.{none_some}
-use Rattle.node_items.specs.Beginning as item
-use Rattle.node_items.proofs.Changes.{spelling_of_what_is_told}
-use Rattle.node_items.proofs.Fitting.{without_lists}
+use Rattle.node_core.specs.Beginning as item
+use Rattle.node_core.proofs.Changes.{spelling_of_what_is_told}
+use Rattle.node_core.proofs.Fitting.{without_lists}
 use Rattle.running_model.specs.NodeRoutes.Hearing.{open_octets}
 use Rattle.running_model.specs.NodeRoutes.Told as routes
 use Rattle.running_model.specs.ConfigNode.Beginning as configuration

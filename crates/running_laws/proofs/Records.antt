@@ -22,13 +22,13 @@ use Rattle.item_wire.specs.declared.item.Item.TheVariants.{Hello as HelloItem}
 use Rattle.node_model.specs.Maps.{Change, Map}
 use Rattle.node_model.specs.Step.{Beginning, Phase, Idle, Opened, Confirmed, Up, Post}
 use Rattle.node_model.proofs.Members.{none_some}
-use Rattle.node_items.specs.Beginning as item
-use Rattle.node_items.specs.Hearing.{heard, next_in, next_of}
-use Rattle.node_items.specs.Keeping.{Leaves}
-use Rattle.node_items.specs.Told as items
-use Rattle.node_items.proofs.Changes.{change_of_what_is_told}
-use Rattle.node_items.proofs.Cutting.{leaves_one}
-use Rattle.node_items.proofs.Records.{change_heard, hello_heard}
+use Rattle.node_core.specs.Beginning as item
+use Rattle.node_core.specs.Hearing.{heard, next_in, next_of}
+use Rattle.node_core.specs.Left.{Leaves}
+use Rattle.node_core.specs.Told as items
+use Rattle.node_core.proofs.Changes.{change_of_what_is_told}
+use Rattle.node_core.proofs.Cutting.{leaves_one}
+use Rattle.node_core.proofs.Records.{change_heard, hello_heard}
 use Rattle.running_model.specs.ControlNode.Beginning.{item_state}
 use Rattle.machine_laws.specs.MachineModel.Session.{Message, Hello, Carries, is_idle}
 use Rattle.machine_laws.specs.MachineModel.Moments.{NoneGoesDown}

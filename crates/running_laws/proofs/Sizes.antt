@@ -6,9 +6,9 @@ use Rattle.ov_sync.specs.declared.Delta.{Delta}
 use Rattle.ov_sync.specs.declared.Delta.TheVariants.{Put, Drop}
 use Rattle.ov_types.specs.declared.vpn.VpnKey.{VpnKey}
 use Rattle.ov_types.specs.declared.vpn.VpnRoute.{VpnRoute}
-use Rattle.node_items.specs.Told as items
-use Rattle.node_items.specs.Told.{CanBeTold}
-use Rattle.node_items.proofs.Changes.{spelling_of_what_is_told}
+use Rattle.node_core.specs.Told as items
+use Rattle.node_core.specs.Told.{CanBeTold}
+use Rattle.node_core.proofs.Changes.{spelling_of_what_is_told}
 use Rattle.node_model.specs.Keys.{Low, Vpn, Row, Publish, Subscribe}
 use Rattle.node_model.specs.Maps.{Change}
 use Rattle.node_model.specs.Values.{Route}

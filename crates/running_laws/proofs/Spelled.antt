@@ -9,7 +9,7 @@ use Rattle.ov_sync.specs.declared.Delta.{Delta}
 use Rattle.item_wire.specs.declared.event.ItemFrom.{ItemFrom}
 use Rattle.bgp_session.specs.Happenings.{SessionFields, idle_session}
 use Rattle.bgp_session.specs.Inputs.{Came, RightUpdate}
-use Rattle.node_items.proofs.Changes.{one_change}
+use Rattle.node_core.proofs.Changes.{one_change}
 use Rattle.node_model.specs.Keys.{Vpn}
 use Rattle.node_model.specs.Maps.{Change}
 use Rattle.node_model.specs.Values.{Route}

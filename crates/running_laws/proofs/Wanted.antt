@@ -18,8 +18,8 @@ use Rattle.config_types.specs.declared.topology.Node.{Node}
 use Rattle.config_types.specs.declared.topology.Topology.{Topology}
 use Rattle.schedule_script.specs.ConfigCheck.Finding.{node_named}
 use Rattle.machine_laws.specs.TransformModel.Objects.{low_objects}
-use Rattle.node_items.specs.Told.{AllFit}
-use Rattle.node_items.proofs.Maps.{nothing_fits}
+use Rattle.node_core.specs.Told.{AllFit}
+use Rattle.node_core.proofs.Maps.{nothing_fits}
 use Rattle.node_model.specs.Agent as agent
 use Rattle.node_model.specs.Keys.{Key, key_cmp}
 use Rattle.node_model.specs.Maps.{Map}

@@ -9,7 +9,7 @@ use Rattle.agent_node.specs.ItemWire.Item.TheVariants.{Hello as HelloItem}
 use Rattle.ov_sync.specs.declared.Delta.TheVariants.{Put, Drop}
 use Rattle.config_node.specs.ConfigCheck.Checked.{Checked}
 use Rattle.config_types.specs.declared.event.Event.{Event as Written}
-use Rattle.agent_node.specs.NodeItems.Told as items
+use Rattle.agent_node.specs.NodeCore.Told as items
 use Rattle.agent_node.specs.NodeModel.Keys.{Vpn}
 use Rattle.agent_node.specs.NodeModel.Maps.{Change}
 use Rattle.agent_node.specs.NodeModel.Step.{nothing, post}

@@ -9,7 +9,7 @@ use Rattle.control_node.specs.BgpVpn.Written.{IfPut}
 use Rattle.agent_node.specs.ItemWire.Inputs.{may_send}
 use Rattle.agent_node.specs.ItemWire.ItemFrom.{ItemFrom}
 use Rattle.agent_node.specs.ItemWire.ItemFrom.TheVariants as From
-use Rattle.agent_node.specs.NodeItems.Told.{CanBeTold}
+use Rattle.agent_node.specs.NodeCore.Told.{CanBeTold}
 use Rattle.agent_node.specs.NodeModel.Keys.{Vpn}
 use Rattle.agent_node.specs.NodeModel.Maps.{Change}
 use Rattle.agent_node.specs.NodeModel.Values.{Route}

@@ -14,7 +14,7 @@ use Rattle.ov_link.specs.Delivery.{Delivers}
 use Rattle.ov_link.specs.FailingState.{FailingState}
 use Rattle.ov_link.specs.declared.step.Input.{Input}
 use Rattle.ov_types.specs.declared.rows.NodeId.{NodeId}
-use Rattle.node_items.specs.Beginning as item
+use Rattle.node_core.specs.Beginning as item
 use Rattle.node_model.specs.Maps.{Map, difference}
 use Rattle.node_model.specs.Paths.{Told}
 use Rattle.node_model.specs.Step.{Beginning, NodeKind, Post, Steps, begun, changes, nothing, planned, post, replies, told_all}

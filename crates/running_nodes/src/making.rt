@@ -20,7 +20,7 @@ use crate::plans::{
 };
 use config_check::Valid;
 use config_types::{Node, Topology};
-use node_items::config_name;
+use node_core::config_name;
 use ov_types::{NoMemory, NodeId};
 use running_model::{AgentNode, ControlNode};
 use std::alloc::Global;

@@ -31,16 +31,16 @@ use Rattle.machine_model.proofs.TransformModel.InUse.{few_services, services_are
 use Rattle.machine_model.proofs.TransformModel.Lists.{place_within}
 use Rattle.machine_model.proofs.TransformModel.Prefixes.{use_number}
 use Rattle.ov_types.proofs.FirstLemmas.{contains_at}
-use Rattle.node_items.specs.NodeModel.Keys.{Low}
-use Rattle.node_items.specs.NodeModel.Values.{Object}
-use Rattle.node_items.specs.ItemWire.Changes.{item_of_key, item_of_object}
-use Rattle.node_items.specs.ItemWire.Entries.{is_from_to}
-use Rattle.node_items.specs.ItemWire.Ranges.{is_address, is_block, is_hop, is_import, is_in_range, is_network, is_node_address, is_rule}
-use Rattle.node_items.specs.ItemWire.Records.{has_lists}
-use Rattle.node_items.specs.ItemWire.Item.{Item}
-use Rattle.node_items.specs.ItemWire.Item.TheVariants as I
-use Rattle.node_items.proofs.ItemWire.ShortRecords.{most_are_short}
-use Rattle.node_items.specs.Told.{Fits, IsWritable}
+use Rattle.node_core.specs.NodeModel.Keys.{Low}
+use Rattle.node_core.specs.NodeModel.Values.{Object}
+use Rattle.node_core.specs.ItemWire.Changes.{item_of_key, item_of_object}
+use Rattle.node_core.specs.ItemWire.Entries.{is_from_to}
+use Rattle.node_core.specs.ItemWire.Ranges.{is_address, is_block, is_hop, is_import, is_in_range, is_network, is_node_address, is_rule}
+use Rattle.node_core.specs.ItemWire.Records.{has_lists}
+use Rattle.node_core.specs.ItemWire.Item.{Item}
+use Rattle.node_core.specs.ItemWire.Item.TheVariants as I
+use Rattle.node_core.proofs.ItemWire.ShortRecords.{most_are_short}
+use Rattle.node_core.specs.Told.{Fits, IsWritable}
 use Rattle.transform_record_laws.proofs.Entries.{between, entries_in_range}
 use Rattle.transform_record_laws.proofs.Few.{few_entries, few_imports, few_subnets}
 use Rattle.transform_record_laws.proofs.Forms.{network_fits, node_fits, port_fits, service_fits}

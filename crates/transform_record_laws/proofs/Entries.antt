@@ -28,8 +28,8 @@ use Rattle.machine_model.specs.AclCompile.Oriented.{acl_rules, backwards, does, 
 use Rattle.machine_model.proofs.AclCompile.Kept.{chain_is_short}
 use Rattle.policy_rules.proofs.Lists.{joined_is}
 use Rattle.machine_model.proofs.TransformModel.Lists.{place_within, there_if}
-use Rattle.node_items.specs.ItemWire.Entries.{is_from_to}
-use Rattle.node_items.specs.ItemWire.Ranges.{are_ports, is_action, is_protocol, is_rule, is_rule_number}
+use Rattle.node_core.specs.ItemWire.Entries.{is_from_to}
+use Rattle.node_core.specs.ItemWire.Ranges.{are_ports, is_action, is_protocol, is_rule, is_rule_number}
 use Rattle.transform_record_laws.proofs.Forms.{RuleFits, policy_fits}
 
 -- a number between two

@@ -14,7 +14,7 @@ use Rattle.config_types.specs.declared.config.Rule.{Rule}
 use Rattle.config_types.specs.declared.config.Service.{Service}
 use Rattle.config_types.specs.declared.topology.Node.{Node}
 use Rattle.config_types.specs.declared.topology.Topology.{Topology}
-use Rattle.node_items.specs.ItemWire.Ranges.{are_ports, is_network}
+use Rattle.node_core.specs.ItemWire.Ranges.{are_ports, is_network}
 use Rattle.transform_record_laws.proofs.Lists.{passes_at}
 
 -- ---- the five lists of a configuration

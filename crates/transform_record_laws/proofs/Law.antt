@@ -8,12 +8,12 @@ use Rattle.machine_model.specs.ConfigCheck.Rules.{first_broken}
 use Rattle.machine_model.proofs.ConfigCheck.Validity.{valid_iff}
 use Rattle.machine_model.specs.TransformModel.Objects.{low_objects}
 use Rattle.machine_model.proofs.TransformModel.LowKeys.{low_is}
-use Rattle.node_items.specs.NodeModel.Keys.{Key}
-use Rattle.node_items.specs.NodeModel.Values.{Value}
-use Rattle.node_items.specs.NodeModel.Wants.{slice_entry}
-use Rattle.node_items.proofs.NodeModel.Members.{from_entry, from_map, contains_of}
-use Rattle.node_items.proofs.NodeModel.Orders.{key_exact, key_total}
-use Rattle.node_items.specs.Told.{AllFit, Fits}
+use Rattle.node_core.specs.NodeModel.Keys.{Key}
+use Rattle.node_core.specs.NodeModel.Values.{Value}
+use Rattle.node_core.specs.NodeModel.Wants.{slice_entry}
+use Rattle.node_core.proofs.NodeModel.Members.{from_entry, from_map, contains_of}
+use Rattle.node_core.proofs.NodeModel.Orders.{key_exact, key_total}
+use Rattle.node_core.specs.Told.{AllFit, Fits}
 use Rattle.machine_model.specs.Setup.{low_in}
 use Rattle.transform_record_laws.proofs.Each.{object_told}
 

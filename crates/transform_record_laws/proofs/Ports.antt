@@ -19,12 +19,12 @@ use Rattle.machine_model.specs.TransformModel.Objects.{LowObject, instance_objec
 use Rattle.machine_model.proofs.TransformModel.Lists.{pairs_mapped, pairs_weaker}
 use Rattle.machine_model.proofs.TransformModel.LowKeys.{keys_differ, low_kept}
 use Rattle.machine_model.specs.Setup.{low_in}
-use Rattle.node_items.specs.NodeModel.Keys.{Key, Low, key_cmp}
-use Rattle.node_items.specs.NodeModel.Members.{Member}
-use Rattle.node_items.specs.NodeModel.Values.{Value}
-use Rattle.node_items.specs.NodeModel.Wants.{slice_entry}
-use Rattle.node_items.proofs.NodeModel.Members.{contains_of, from_map, in_map, member_of}
-use Rattle.node_items.proofs.NodeModel.Orders.{key_exact, key_total}
+use Rattle.node_core.specs.NodeModel.Keys.{Key, Low, key_cmp}
+use Rattle.node_core.specs.NodeModel.Members.{Member}
+use Rattle.node_core.specs.NodeModel.Values.{Value}
+use Rattle.node_core.specs.NodeModel.Wants.{slice_entry}
+use Rattle.node_core.proofs.NodeModel.Members.{contains_of, from_map, in_map, member_of}
+use Rattle.node_core.proofs.NodeModel.Orders.{key_exact, key_total}
 use Rattle.transform_record_laws.specs.Ports.{attachment, with_entry, with_ports, without_entry}
 use Rattle.transform_record_laws.proofs.Between.{exchanged, whatever_order}
 use Rattle.transform_record_laws.proofs.OtherPorts.{objects_with, others}

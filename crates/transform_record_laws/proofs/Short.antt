@@ -7,11 +7,11 @@ use Rattle.ov_types.specs.declared.numbers.InstanceId.{InstanceId}
 use Rattle.ov_types.specs.declared.numbers.ServiceNo.{ServiceNo}
 use Rattle.ov_types.specs.declared.objects.AclRule.{AclRule}
 use Rattle.ov_types.specs.declared.prefix.Addr.{Addr}
-use Rattle.node_items.specs.ItemWire.Item.TheVariants as I
-use Rattle.node_items.specs.ItemWire.Entries.{is_from_to}
-use Rattle.node_items.specs.ItemWire.Ranges.{is_network, is_block, is_import, is_hop, is_rule, is_in_range}
-use Rattle.node_items.specs.ItemWire.Records.{json_text, prefix_record, import_record, hop_record, rule_record}
-use Rattle.node_items.proofs.ItemWire.Weights.{json_weight}
+use Rattle.node_core.specs.ItemWire.Item.TheVariants as I
+use Rattle.node_core.specs.ItemWire.Entries.{is_from_to}
+use Rattle.node_core.specs.ItemWire.Ranges.{is_network, is_block, is_import, is_hop, is_rule, is_in_range}
+use Rattle.node_core.specs.ItemWire.Records.{json_text, prefix_record, import_record, hop_record, rule_record}
+use Rattle.node_core.proofs.ItemWire.Weights.{json_weight}
 use Rattle.transform_record_laws.proofs.Sizes.{digits, from_to, import_small, prefix_small, hop_small, rule_small, list_small}
 
 pub instance_short : (imports : List InstanceId) (i : InstanceId) → is_in_range (I.Instance imports i) ≡ true → length imports ≤ 128

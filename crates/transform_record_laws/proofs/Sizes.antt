@@ -15,12 +15,12 @@ use Rattle.ov_types.specs.declared.objects.AclRule.{AclRule}
 use Rattle.ov_types.specs.declared.packet.Range16.{Range16}
 use Rattle.ov_types.specs.declared.packet.RuleNo.{RuleNo}
 use Rattle.ov_types.specs.declared.prefix.Addr.{Addr}
-use Rattle.node_items.specs.ItemWire.Entries.{is_from_to}
-use Rattle.node_items.specs.ItemWire.Ranges.{is_node_address, is_block, is_import, is_hop, is_protocol, are_ports, is_action, is_rule_number, is_rule}
-use Rattle.node_items.specs.ItemWire.Records.{prefix_record, import_record, hop_record, protocol_record, action_record, rule_record}
-use Rattle.node_items.proofs.ItemWire.ShortRecords.{length_address, length_prefix}
-use Rattle.node_items.proofs.ItemWire.Weights.{weight, items_weight}
-use Rattle.node_items.proofs.ItemWire.ValueWeights.{comma_one}
+use Rattle.node_core.specs.ItemWire.Entries.{is_from_to}
+use Rattle.node_core.specs.ItemWire.Ranges.{is_node_address, is_block, is_import, is_hop, is_protocol, are_ports, is_action, is_rule_number, is_rule}
+use Rattle.node_core.specs.ItemWire.Records.{prefix_record, import_record, hop_record, protocol_record, action_record, rule_record}
+use Rattle.node_core.proofs.ItemWire.ShortRecords.{length_address, length_prefix}
+use Rattle.node_core.proofs.ItemWire.Weights.{weight, items_weight}
+use Rattle.node_core.proofs.ItemWire.ValueWeights.{comma_one}
 
 -- ---- numbers
 pub digits : (n : ℕ) → n < 10000000 → length (decimal n) ≤ 7

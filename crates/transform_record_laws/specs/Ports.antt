@@ -7,9 +7,9 @@ use Rattle.std.specs.FinMap.{FinMap, insert, remove}
 use Rattle.config_types.specs.declared.config.Port.{Port}
 use Rattle.machine_model.specs.ConfigCheck.Checked.{Checked}
 use Rattle.machine_model.specs.TransformModel.Objects.{port_object}
-use Rattle.node_items.specs.NodeModel.Keys.{Key}
-use Rattle.node_items.specs.NodeModel.Values.{Value}
-use Rattle.node_items.specs.NodeModel.Wants.{slice_entry}
+use Rattle.node_core.specs.NodeModel.Keys.{Key}
+use Rattle.node_core.specs.NodeModel.Values.{Value}
+use Rattle.node_core.specs.NodeModel.Wants.{slice_entry}
 
 -- the same with other ports
 abbrev pub with_ports : Checked → List Port → Checked

@@ -7,7 +7,7 @@ ghost use Rattle.config_types.specs.Form.{has_config_form, has_topology_form};
 ghost use Rattle.config_types.specs.declared.config.Port.{Port};
 ghost use Rattle.machine_model.specs.ConfigCheck.Checked.{Checked};
 ghost use Rattle.machine_model.specs.ConfigCheck.Rules.{first_broken};
-ghost use Rattle.node_items.specs.Told.{AllFit};
+ghost use Rattle.node_core.specs.Told.{AllFit};
 ghost use Rattle.machine_model.specs.Setup.{low_in};
 ghost use Rattle.transform_record_laws.specs.Ports.{attachment, with_entry, with_ports, without_entry};
 

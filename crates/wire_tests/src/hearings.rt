@@ -9,7 +9,7 @@ use crate::{record_sessions, sessions};
 use bgp_session::{Cause, Session};
 use case_lines::{CaseFault, octets, push_slice, told};
 use item_wire::{Item, ItemRefusal, ItemSession, read_item};
-use node_items::HeardRecords;
+use node_core::HeardRecords;
 use node_routes::HeardRoutes;
 use ov_io::TextOut;
 use ov_types::{Addr, Items, NoMemory};
@@ -195,7 +195,7 @@ fn hear_octets(
     octets: &[u8],
     out: &mut TextOut,
 ) -> Result<(), CaseFault> {
-    match node_items::hear(alloc, session, octets) {
+    match node_core::hear(alloc, session, octets) {
         Ok(heard) => push_heard_records(alloc, parts, &heard, out),
         Err(_) => Err(CaseFault::NoMemory),
     }
@@ -221,7 +221,7 @@ fn open_and_hear_records(
     requires { session.old.state ≡ ItemIdle }
 {
     let me = record_sessions::peer()?;
-    if node_items::greet(alloc, session, &me).is_err() {
+    if node_core::greet(alloc, session, &me).is_err() {
         return Err(CaseFault::NoMemory);
     }
     hear_records(alloc, session, parts, out)?;

@@ -1,7 +1,7 @@
 use Rattle.std.proofs.Common.{sym, ap, ◌∙◌}
-use Rattle.node_items.specs.Told.{change_of}
+use Rattle.node_core.specs.Told.{change_of}
 use Rattle.agent_node.specs.Applying.{changed_by}
-use Rattle.node_items.specs.Told.{down_of}
+use Rattle.node_core.specs.Told.{down_of}
 use Rattle.agent_node.proofs.Applied.{after_more}
 use Rattle.agent_node.proofs.begin.apply_all.Goals as goal
 

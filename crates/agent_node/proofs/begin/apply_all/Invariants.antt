@@ -1,7 +1,7 @@
 use Rattle.std.proofs.Common.{◌≡◌}
 use Rattle.std.specs.List.{filter_map}
 use Rattle.ov_sync.specs.Keyed.{after}
-use Rattle.node_items.specs.Told.{AllFit, change_of, down_of}
+use Rattle.node_core.specs.Told.{AllFit, change_of, down_of}
 use Rattle.agent_node.proofs.begin.apply_all.Given as goal
 
 abbrev pub invariant-loop-item : goal.invariant-loop-item

@@ -1,7 +1,7 @@
 use Rattle.std.proofs.Common.{◌≡◌, List, [], ◌∷◌, map, Some, ap, sym, ◌∙◌, is_some}
 use Rattle.std.specs.List.{list_any}
 use Rattle.item_wire.specs.declared.item.Item.{Item}
-use Rattle.node_items.specs.Told.{change_of}
+use Rattle.node_core.specs.Told.{change_of}
 use Rattle.agent_tables.specs.Listed.{list_key}
 use Rattle.agent_tables.specs.Touched.{route_key}
 use Rattle.agent_tables.specs.declared.hearing.Hearing.{Hearing}

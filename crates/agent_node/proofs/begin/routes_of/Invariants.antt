@@ -1,5 +1,5 @@
 use Rattle.std.proofs.Common.{◌≡◌, map, take, Some}
-use Rattle.node_items.specs.Told.{change_of}
+use Rattle.node_core.specs.Told.{change_of}
 use Rattle.agent_tables.specs.Touched.{route_key}
 use Rattle.agent_node.proofs.begin.routes_of.Given as goal
 

@@ -1,6 +1,6 @@
 use Rattle.std.proofs.Common.{◌≡◌, drop}
 use Rattle.std.specs.List.{list_any}
-use Rattle.node_items.specs.Beginning.{phase_of}
+use Rattle.node_core.specs.Beginning.{phase_of}
 use Rattle.agent_node.specs.Core.{is_up}
 use Rattle.agent_node.proofs.ends.is_any_up.Given as goal
 

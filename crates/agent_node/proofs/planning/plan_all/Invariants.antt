@@ -1,5 +1,5 @@
 use Rattle.std.specs.List.{All}
-use Rattle.node_items.specs.Told.{up_of}
+use Rattle.node_core.specs.Told.{up_of}
 use Rattle.agent_node.specs.Ends.{SentFits}
 use Rattle.agent_node.specs.Planning.{ArePlanned}
 use Rattle.agent_node.proofs.planning.plan_all.Given as goal

@@ -3,8 +3,8 @@ use denote.Enum.Bare.{sameb}
 use Rattle.item_wire.specs.contracts.event.ItemState.{the_type}
 use Rattle.item_wire.specs.declared.event.ItemState.{ItemState}
 use Rattle.item_wire.specs.declared.event.ItemState.TheVariants.{Idle, Opened, Up}
-use Rattle.node_items.specs.Beginning.{phase_of}
-use Rattle.node_items.specs.Told.{spelled, up_of}
+use Rattle.node_core.specs.Beginning.{phase_of}
+use Rattle.node_core.specs.Told.{spelled, up_of}
 use Rattle.node_core.specs.NodeModel.Maps.{Map, Change, difference}
 use Rattle.agent_node.specs.Planning.{messages_of}
 use Rattle.agent_node.proofs.Changes.{told_fits, told_as}

@@ -1,6 +1,6 @@
 use Rattle.std.proofs.Common.{◌≡◌, map, take}
 use Rattle.ov_sync.specs.Embed.{moved_delta}
-use Rattle.node_items.specs.Told.{spelled}
+use Rattle.node_core.specs.Told.{spelled}
 use Rattle.node_core.specs.NodeModel.Keys.{of_up}
 use Rattle.node_core.specs.NodeModel.Values.{Label as LabelOf}
 use Rattle.agent_node.proofs.planning.spell_all.Given as goal

@@ -1,7 +1,7 @@
 use Rattle.std.proofs.Common.{◌≡◌, [], drop}
 use Rattle.std.specs.List.{filter_map}
 use Rattle.ov_types.specs.Keys.{low_key_cmp}
-use Rattle.node_items.specs.NodeModel.Agent.{acl_entry}
+use Rattle.node_core.specs.NodeModel.Agent.{acl_entry}
 use Rattle.agent_tables.specs.Slice.{pairs_of}
 use Rattle.agent_tables.proofs.Ordered.{all_with}
 use Rattle.agent_tables.proofs.acls.acls_of.Given as goal

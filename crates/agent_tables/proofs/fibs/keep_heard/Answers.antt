@@ -1,5 +1,5 @@
 use Rattle.std.proofs.Common.{ap, sym, ◌∙◌, ◌+◌, List, drop, map}
-use Rattle.node_items.specs.NodeModel.Agent.{rows_heard}
+use Rattle.node_core.specs.NodeModel.Agent.{rows_heard}
 use Rattle.agent_tables.specs.Routes.{kept_all}
 use Rattle.agent_tables.specs.Views.{heard_of}
 use Rattle.agent_tables.specs.declared.hearing.Hearing.{Hearing}

@@ -1,5 +1,5 @@
 use Rattle.std.proofs.Common.{◌≡◌, drop, map}
-use Rattle.node_items.specs.NodeModel.Agent.{route_from}
+use Rattle.node_core.specs.NodeModel.Agent.{route_from}
 use Rattle.agent_tables.specs.Views.{heard_of}
 use Rattle.agent_tables.proofs.hearing.first_heard.Given as goal
 

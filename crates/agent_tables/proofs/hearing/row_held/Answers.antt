@@ -1,7 +1,7 @@
 use Rattle.std.proofs.Common.{Some, ap, sym, ◌∙◌}
 use Rattle.ov_types.specs.declared.keys.DownValue.{DownValue}
-use Rattle.node_items.specs.Told.{down_value}
-use Rattle.node_items.specs.NodeModel.Agent.{as_hop}
+use Rattle.node_core.specs.Told.{down_value}
+use Rattle.node_core.specs.NodeModel.Agent.{as_hop}
 use Rattle.agent_tables.proofs.Images.{row-get}
 use Rattle.agent_tables.proofs.hearing.row_held.Goals as goal
 

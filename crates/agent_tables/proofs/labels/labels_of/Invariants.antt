@@ -1,6 +1,6 @@
 use Rattle.std.proofs.Common.{◌≡◌, [], drop}
 use Rattle.std.specs.List.{filter_map}
-use Rattle.node_items.specs.NodeModel.Agent.{attached}
+use Rattle.node_core.specs.NodeModel.Agent.{attached}
 use Rattle.agent_tables.specs.Kept.{label_order}
 use Rattle.agent_tables.specs.Slice.{pairs_of}
 use Rattle.agent_tables.proofs.Ordered.{all_with}

@@ -1,9 +1,9 @@
 use Rattle.std.proofs.Common.{◌≡◌, [], ◌∷◌, ℕ, ap, refl, sym}
 use Rattle.std.specs.declared.option.Option.TheVariants.{Some}
 use Rattle.ov_sync.specs.Keyed.{changed}
-use Rattle.node_items.specs.NodeModel.Agent.{Heard, Holdings, needed, rows as rows_of, told_of}
-use Rattle.node_items.specs.NodeModel.Maps.{Change}
-use Rattle.node_items.specs.NodeModel.Step.{At}
+use Rattle.node_core.specs.NodeModel.Agent.{Heard, Holdings, needed, rows as rows_of, told_of}
+use Rattle.node_core.specs.NodeModel.Maps.{Change}
+use Rattle.node_core.specs.NodeModel.Step.{At}
 use Rattle.agent_tables.specs.Touched.{AgreeBut, RowKey, route_key, told}
 use Rattle.agent_tables.proofs.Touched.{one_changed, same_slice, session_changed, tables_remade}
 use Rattle.agent_tables.proofs.laws.a_route_changes_one_row.Goals as goal

@@ -1,6 +1,6 @@
 use Rattle.std.proofs.Common.{◌≡◌, drop}
 use Rattle.std.specs.List.{filter_map, list_all}
-use Rattle.node_items.specs.NodeModel.Agent.{entered_by}
+use Rattle.node_core.specs.NodeModel.Agent.{entered_by}
 use Rattle.agent_tables.specs.Touched.{is_listed}
 use Rattle.agent_tables.proofs.needs.enter_only.Given as goal
 

@@ -1,6 +1,6 @@
 use Rattle.std.proofs.Common.{◌≡◌, ◌++◌, drop}
 use Rattle.std.specs.List.{filter_map}
-use Rattle.node_items.specs.NodeModel.Agent.{entered_by}
+use Rattle.node_core.specs.NodeModel.Agent.{entered_by}
 use Rattle.agent_tables.proofs.needs.need_entered.Given as goal
 
 abbrev pub invariant-loop-rule : goal.invariant-loop-rule

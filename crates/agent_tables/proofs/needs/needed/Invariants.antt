@@ -1,5 +1,5 @@
 use Rattle.std.proofs.Common.{◌≡◌, ◌++◌, drop}
-use Rattle.node_items.specs.NodeModel.Agent.{needed_by}
+use Rattle.node_core.specs.NodeModel.Agent.{needed_by}
 use Rattle.agent_tables.specs.Slice.{pairs_of}
 use Rattle.agent_tables.proofs.needs.needed.Given as goal
 

@@ -1,8 +1,8 @@
 use Rattle.std.proofs.Common.{◌≡◌, drop, map}
 use Rattle.std.specs.List.{AllByRecursion}
-use Rattle.node_items.specs.Told.{AllFit}
+use Rattle.node_core.specs.Told.{AllFit}
 use Rattle.ov_types.specs.declared.objects.LowKey.{LowKey}
-use Rattle.node_items.specs.NodeModel.Agent.{Heard, Holdings}
+use Rattle.node_core.specs.NodeModel.Agent.{Heard, Holdings}
 use Rattle.agent_tables.specs.Listed.{object_in_use}
 use Rattle.agent_tables.specs.Views.{heard_of}
 use Rattle.agent_tables.proofs.slice.object_in_use.Given as goal

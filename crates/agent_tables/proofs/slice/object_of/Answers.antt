@@ -1,9 +1,9 @@
 use Rattle.std.proofs.Common.{subst}
 use Rattle.ov_types.specs.declared.keys.DownKey.{DownKey}
 use Rattle.ov_types.specs.declared.keys.DownValue.{DownValue}
-use Rattle.node_items.specs.Told.{Fits, down_value}
-use Rattle.node_items.specs.NodeModel.Keys.{Low, of_down}
-use Rattle.node_items.specs.NodeModel.Values.{Object}
+use Rattle.node_core.specs.Told.{Fits, down_value}
+use Rattle.node_core.specs.NodeModel.Keys.{Low, of_down}
+use Rattle.node_core.specs.NodeModel.Values.{Object}
 use Rattle.agent_tables.proofs.Objects.{keyed, circuit}
 use Rattle.agent_tables.proofs.slice.object_of.Goals as goal
 

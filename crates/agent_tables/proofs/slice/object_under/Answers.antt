@@ -1,9 +1,9 @@
 use Rattle.std.proofs.Common.{Some, ap, sym, ◌∙◌}
 use Rattle.ov_types.specs.declared.keys.DownValue.{DownValue}
-use Rattle.node_items.specs.Told.{Fits, down_of, down_value}
-use Rattle.node_items.specs.NodeModel.Keys.{Low}
-use Rattle.node_items.specs.NodeModel.Maps.{as_object}
-use Rattle.node_items.specs.NodeModel.Values.{Object}
+use Rattle.node_core.specs.Told.{Fits, down_of, down_value}
+use Rattle.node_core.specs.NodeModel.Keys.{Low}
+use Rattle.node_core.specs.NodeModel.Maps.{as_object}
+use Rattle.node_core.specs.NodeModel.Values.{Object}
 use Rattle.agent_tables.proofs.Held.{object_found}
 use Rattle.agent_tables.proofs.Images.{object-get, slice-get}
 use Rattle.agent_tables.proofs.Objects.{circuit, keyed}

@@ -1,7 +1,7 @@
 use Rattle.std.proofs.Common.{◌≡◌, drop, map}
 use Rattle.std.specs.List.{AllByRecursion}
-use Rattle.node_items.specs.Told.{AllFit}
-use Rattle.node_items.specs.NodeModel.Agent.{Heard, Holdings, slice_in_use}
+use Rattle.node_core.specs.Told.{AllFit}
+use Rattle.node_core.specs.NodeModel.Agent.{Heard, Holdings, slice_in_use}
 use Rattle.agent_tables.specs.Views.{heard_of}
 use Rattle.agent_tables.proofs.slice.slice_in_use.Given as goal
 

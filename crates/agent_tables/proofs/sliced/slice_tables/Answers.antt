@@ -5,7 +5,7 @@ use Rattle.ov_types.specs.Keys.{low_key_cmp}
 use Rattle.ov_types.specs.declared.numbers.InstanceId.{InstanceId}
 use Rattle.ov_types.specs.declared.objects.LowKey.{LowKey}
 use Rattle.ov_types.specs.declared.objects.LowValue.{LowValue}
-use Rattle.node_items.specs.NodeModel.Agent.{Holdings, needed, needed_by, slice_in_use}
+use Rattle.node_core.specs.NodeModel.Agent.{Holdings, needed, needed_by, slice_in_use}
 use Rattle.agent_tables.specs.Slice.{pairs_of}
 use Rattle.agent_tables.specs.Views.{heard_of}
 use Rattle.agent_tables.proofs.Slices.{labels_in, lists_in, slice_ascends}

@@ -1,5 +1,5 @@
 use Rattle.std.proofs.Common.{sym, ap, ◌∙◌}
-use Rattle.node_items.specs.Told.{up_of}
+use Rattle.node_core.specs.Told.{up_of}
 use Rattle.agent_tables.specs.Kept.{added}
 use Rattle.agent_tables.proofs.Added.{added_none}
 use Rattle.agent_tables.proofs.wants.publish.Goals as goal

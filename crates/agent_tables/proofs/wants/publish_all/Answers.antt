@@ -1,9 +1,9 @@
 use Rattle.std.proofs.Common.{ap, ◌+◌, List, drop}
 use Rattle.std.specs.List.{flat_map}
-use Rattle.node_items.specs.Told.{up_of}
-use Rattle.node_items.specs.NodeModel.Agent.{publication}
-use Rattle.node_items.specs.NodeModel.Keys.{Key}
-use Rattle.node_items.specs.NodeModel.Values.{Value}
+use Rattle.node_core.specs.Told.{up_of}
+use Rattle.node_core.specs.NodeModel.Agent.{publication}
+use Rattle.node_core.specs.NodeModel.Keys.{Key}
+use Rattle.node_core.specs.NodeModel.Values.{Value}
 use Rattle.agent_tables.specs.Kept.{added}
 use Rattle.agent_tables.specs.Slice.{pairs_of}
 use Rattle.agent_tables.specs.declared.object.SliceObject.{SliceObject}

@@ -1,7 +1,7 @@
 use Rattle.std.proofs.Common.{◌≡◌, drop}
 use Rattle.std.specs.List.{flat_map}
-use Rattle.node_items.specs.Told.{up_of}
-use Rattle.node_items.specs.NodeModel.Agent.{publication}
+use Rattle.node_core.specs.Told.{up_of}
+use Rattle.node_core.specs.NodeModel.Agent.{publication}
 use Rattle.agent_tables.specs.Kept.{added}
 use Rattle.agent_tables.specs.Slice.{pairs_of}
 use Rattle.agent_tables.proofs.wants.publish_all.Given as goal

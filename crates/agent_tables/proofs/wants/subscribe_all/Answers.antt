@@ -1,5 +1,5 @@
 use Rattle.std.proofs.Common.{ap, ◌+◌, ◌∷◌, [], drop, map, get_or}
-use Rattle.node_items.specs.Told.{up_of}
+use Rattle.node_core.specs.Told.{up_of}
 use Rattle.agent_tables.specs.Kept.{added}
 use Rattle.agent_tables.proofs.Added.{added_turn, added_end}
 use Rattle.agent_tables.proofs.Lists.{turn_at, rest_none}

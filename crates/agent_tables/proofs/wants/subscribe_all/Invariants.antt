@@ -1,7 +1,7 @@
 use Rattle.std.proofs.Common.{◌≡◌, drop, map}
-use Rattle.node_items.specs.Told.{up_of}
-use Rattle.node_items.specs.NodeModel.Keys.{Subscribe}
-use Rattle.node_items.specs.NodeModel.Values.{Label}
+use Rattle.node_core.specs.Told.{up_of}
+use Rattle.node_core.specs.NodeModel.Keys.{Subscribe}
+use Rattle.node_core.specs.NodeModel.Values.{Label}
 use Rattle.agent_tables.specs.Kept.{added}
 use Rattle.agent_tables.proofs.wants.subscribe_all.Given as goal
 

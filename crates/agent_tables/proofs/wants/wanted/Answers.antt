@@ -1,6 +1,6 @@
 use Rattle.std.proofs.Common.{ap, ◌∙◌, map}
-use Rattle.node_items.specs.Told.{up_of}
-use Rattle.node_items.specs.NodeModel.Agent.{needed_by}
+use Rattle.node_core.specs.Told.{up_of}
+use Rattle.node_core.specs.NodeModel.Agent.{needed_by}
 use Rattle.agent_tables.specs.Slice.{pairs_of}
 use Rattle.agent_tables.specs.Views.{heard_of}
 use Rattle.agent_tables.proofs.Added.{all_wanted, up-none}

@@ -1,6 +1,6 @@
 use Rattle.std.proofs.Common.{true, refl, ap, ◌∙◌, map, subst, sym}
 use Rattle.ov_sync.specs.Keyed.{map_of}
-use Rattle.node_items.specs.Told.{AllFit, spelled}
+use Rattle.node_core.specs.Told.{AllFit, spelled}
 use Rattle.node_core.specs.NodeModel.Maps.{Change}
 use Rattle.config_node.specs.Ends.{low_of, low_order}
 use Rattle.config_node.proofs.Changes.{told_as, told_fits}

@@ -1,5 +1,5 @@
 use Rattle.std.proofs.Common.{refl, ap, ◌∙◌, map, sym}
-use Rattle.node_items.specs.Told.{spelled}
+use Rattle.node_core.specs.Told.{spelled}
 use Rattle.node_core.specs.NodeModel.Maps.{Change}
 use Rattle.config_node.proofs.Changes.{fits_by}
 use Rattle.config_node.proofs.Posts.{plan_is}

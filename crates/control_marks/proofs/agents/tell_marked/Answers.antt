@@ -3,7 +3,7 @@ use Rattle.std.proofs.lemmas.Result.{IfOk-weaker, on_ok_weaker}
 use Rattle.std.specs.declared.option.Option.{Option}
 use Rattle.ov_types.specs.declared.keys.DownKey.{DownKey}
 use Rattle.ov_types.specs.declared.keys.DownValue.{DownValue}
-use Rattle.control_marks.specs.NodeItems.Told.{down_of}
+use Rattle.control_marks.specs.NodeCore.Told.{down_of}
 use Rattle.control_marks.specs.ControlChangeLaws.Here.{wanted_on}
 use Rattle.control_marks.specs.Wanted.{AreItems}
 use Rattle.control_marks.proofs.Sending.{items_agree}

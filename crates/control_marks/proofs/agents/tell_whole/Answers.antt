@@ -1,6 +1,6 @@
 use Rattle.std.proofs.Common.{ap, map, ◌∙◌}
 use Rattle.ov_sync.specs.Embed.{moved_delta}
-use Rattle.control_marks.specs.NodeItems.Told.{down_of, down_value}
+use Rattle.control_marks.specs.NodeCore.Told.{down_of, down_value}
 use Rattle.vpn_tables.specs.NodeModel.Keys.{of_down}
 use Rattle.vpn_tables.specs.NodeModel.Maps.{Map, difference}
 use Rattle.control_marks.proofs.Sending.{items_differ}

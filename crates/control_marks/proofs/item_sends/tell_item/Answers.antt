@@ -1,7 +1,7 @@
 use Rattle.std.proofs.Common.{ap, map, ◌∙◌}
 use Rattle.std.specs.Option.{option_map}
 use Rattle.ov_sync.specs.Embed.{moved_delta}
-use Rattle.node_items.specs.Told.{down_value}
+use Rattle.node_core.specs.Told.{down_value}
 use Rattle.vpn_tables.specs.NodeModel.Keys.{of_down}
 use Rattle.control_marks.proofs.Images.{item_set, item_told}
 use Rattle.control_marks.proofs.Moved.{follows}

@@ -9,7 +9,7 @@ use Rattle.ov_sync.specs.Keyed.{change, set_key}
 use Rattle.ov_types.specs.declared.keys.DownKey.{DownKey}
 use Rattle.ov_types.specs.declared.keys.DownValue.{DownValue}
 use Rattle.vpn_tables.specs.NodeModel.Directions.{down_order}
-use Rattle.node_items.specs.Told.{down_of, down_value}
+use Rattle.node_core.specs.Told.{down_of, down_value}
 use Rattle.vpn_tables.specs.NodeModel.Keys.{of_down}
 use Rattle.vpn_tables.specs.NodeModel.Values.{same_value}
 use Rattle.vpn_tables.proofs.NodeModel.Directions.{down_keeps}

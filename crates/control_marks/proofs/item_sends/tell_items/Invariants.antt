@@ -1,8 +1,8 @@
 use Rattle.std.proofs.Common.{map}
 use Rattle.ov_sync.specs.Embed.{moved_delta}
-use Rattle.node_items.specs.Told.{down_value}
+use Rattle.node_core.specs.Told.{down_value}
 use Rattle.vpn_tables.specs.NodeModel.Keys.{of_down}
-use Rattle.node_items.specs.Told.{down_of}
+use Rattle.node_core.specs.Told.{down_of}
 use Rattle.control_marks.proofs.OneByOne.{SoFar}
 use Rattle.control_marks.proofs.item_sends.tell_items.Given as goal
 

@@ -1,6 +1,6 @@
 use Rattle.std.proofs.Common.{ap, sym, ◌∙◌}
 use Rattle.std.specs.List.{filter_map}
-use Rattle.node_items.specs.Told.{change_of}
+use Rattle.node_core.specs.Told.{change_of}
 use Rattle.control_node.proofs.Applied.{agent-same}
 use Rattle.control_node.proofs.Tracking.{marked_more, marked_then}
 use Rattle.control_node.proofs.inputs.hear_from_agent.Goals as goal

@@ -1,6 +1,6 @@
 use Rattle.std.proofs.Common.{ap, sym, ◌∙◌, refl}
 use Rattle.std.specs.List.{filter_map}
-use Rattle.node_items.specs.Told.{change_of}
+use Rattle.node_core.specs.Told.{change_of}
 use Rattle.control_node.proofs.inputs.hear_from_feed.Goals as goal
 
 pub returns-in-Some-clause-heard : goal.returns-in-Some-clause-heard

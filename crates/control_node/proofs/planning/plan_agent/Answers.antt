@@ -5,8 +5,8 @@ use Rattle.ov_sync.specs.Embed.{moved_delta}
 use Rattle.ov_types.specs.declared.keys.DownKey.{DownKey}
 use Rattle.ov_types.specs.declared.keys.DownValue.{DownValue}
 use Rattle.control_wants.specs.Held.{HoldingsFit, told_in}
-use Rattle.node_items.specs.Told.{AllFit, ChangeFits, down_of, down_value}
-use Rattle.node_items.proofs.Maps.{difference_fits, nothing_fits}
+use Rattle.node_core.specs.Told.{AllFit, ChangeFits, down_of, down_value}
+use Rattle.node_core.proofs.Maps.{difference_fits, nothing_fits}
 use Rattle.node_core.specs.NodeModel.Keys.{of_down}
 use Rattle.node_core.specs.NodeModel.Paths.{Holdings}
 use Rattle.control_node.specs.Ends.{IsAgentEnd}

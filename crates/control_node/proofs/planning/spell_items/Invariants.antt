@@ -1,7 +1,7 @@
 use Rattle.std.proofs.Common.{◌≡◌, map, take}
 use Rattle.ov_sync.specs.Embed.{moved_delta}
 use Rattle.node_core.specs.NodeModel.Keys.{of_down}
-use Rattle.node_items.specs.Told.{down_value, spelled}
+use Rattle.node_core.specs.Told.{down_value, spelled}
 use Rattle.control_node.proofs.planning.spell_items.Given as goal
 
 abbrev pub invariant-loop-delta : goal.invariant-loop-delta

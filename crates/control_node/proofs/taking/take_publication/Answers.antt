@@ -1,5 +1,5 @@
 use Rattle.std.proofs.Common.{sym, subst}
-use Rattle.node_items.specs.Told.{change_of}
+use Rattle.node_core.specs.Told.{change_of}
 use Rattle.control_node.specs.Stays.{StaysHeld}
 use Rattle.control_node.specs.Taking.{changed_by}
 use Rattle.control_node.proofs.Applied.{agent-changed, by_record, stays-agent}

@@ -2,7 +2,7 @@ use Rattle.std.proofs.Common.{ap, sym, ◌∙◌, List}
 use Rattle.std.specs.List.{filter_map}
 use Rattle.ov_sync.specs.Keyed.{after}
 use Rattle.item_wire.specs.declared.item.Item.{Item}
-use Rattle.node_items.specs.Told.{change_of}
+use Rattle.node_core.specs.Told.{change_of}
 use Rattle.control_node.specs.Taking.{agent_by}
 use Rattle.control_node.proofs.Applied.{agent-next, agent-same, stays-same, stays-then}
 use Rattle.control_node.proofs.Iterated.{none_left}

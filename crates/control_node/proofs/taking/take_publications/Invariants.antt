@@ -2,7 +2,7 @@ use Rattle.std.proofs.Common.{◌≡◌, true}
 use Rattle.std.specs.List.{AllByRecursion, filter_map}
 use Rattle.ov_sync.specs.Keyed.{after}
 use Rattle.item_wire.specs.Inputs.{is_of_agent}
-use Rattle.node_items.specs.Told.{IsWritable, change_of}
+use Rattle.node_core.specs.Told.{IsWritable, change_of}
 use Rattle.control_node.specs.Stays.{StaysHeld}
 use Rattle.control_node.specs.Taking.{agent_by}
 use Rattle.control_node.specs.Tracking.{AreMarked}

@@ -3,7 +3,7 @@ use Rattle.node_core.specs.Begun.{HasBegun}
 use Rattle.node_core.specs.Keeping.{left_in}
 use Rattle.node_core.specs.Whole.{session_of}
 use Rattle.node_core.specs.NodeModel.Step.{Beginning, post}
-use Rattle.node_items.proofs.Begun.{begun_bytes, begun_closed, begun_opened, left_few}
+use Rattle.node_core.proofs.Begun.{begun_bytes, begun_closed, begun_opened, left_few}
 use Rattle.agent_node.specs.Applying.{AreListed, HaveKeptSlice}
 use Rattle.agent_node.specs.Beginning.{BeginsKeeping, session_at}
 use Rattle.agent_node.specs.declared.begin.Applied.{Applied}

@@ -3,7 +3,7 @@ use Rattle.item_wire.specs.Happenings.{SessionFields}
 use Rattle.node_core.specs.NodeModel.Step.{Opened, Post, post}
 use Rattle.agent_tables.specs.declared.hearing.Hearing.{Hearing}
 use Rattle.agent_node.specs.Ends.{Ends, HeldFits, whom}
-use Rattle.node_items.proofs.States.{idle_state}
+use Rattle.node_core.proofs.States.{idle_state}
 use Rattle.agent_node.proofs.Begins.{greeted, here}
 use Rattle.agent_node.proofs.Posts.{ends_hear, ends_long}
 use Rattle.agent_node.proofs.ends.AgentEnds.greet_at.Goals as goal

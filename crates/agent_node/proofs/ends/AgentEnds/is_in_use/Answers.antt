@@ -1,6 +1,6 @@
 use Rattle.std.proofs.Common.{◌≡◌, ◌<◌, Bool, false, cond, length, slice_index_or, take, sym, ap, ◌∙◌, arith}
 use Rattle.std.specs.List.{list_any}
-use Rattle.node_items.specs.Beginning.{phase_of}
+use Rattle.node_core.specs.Beginning.{phase_of}
 use Rattle.agent_tables.specs.declared.hearing.Hearing.{Hearing}
 use Rattle.agent_node.specs.Applying.{is_in_use}
 use Rattle.agent_node.specs.Core.{is_up}

@@ -1,6 +1,6 @@
 use Rattle.std.proofs.Common.{◌≡◌, length, subst, sym, ap, ◌∙◌, List, map, take, drop, ◌++◌}
 use Rattle.node_core.specs.Plans.{ArePlans}
-use Rattle.node_items.specs.Told.{AllFit, up_of}
+use Rattle.node_core.specs.Told.{AllFit, up_of}
 use Rattle.node_core.specs.NodeModel.Agent.{wanted}
 use Rattle.node_core.specs.NodeModel.Step.{Post}
 use Rattle.agent_tables.specs.Views.{heard_of}

@@ -1,6 +1,6 @@
 use Rattle.std.proofs.Common.{◌≡◌, ◌<◌, length, slice_index_or, sym, ap, ◌∙◌, arith}
 use Rattle.node_core.specs.Resting.{end_at}
-use Rattle.node_items.specs.Beginning.{phase_of}
+use Rattle.node_core.specs.Beginning.{phase_of}
 use Rattle.node_core.specs.NodeModel.Step.{Post, post}
 use Rattle.item_wire.specs.declared.event.ItemState.{ItemState}
 use Rattle.agent_tables.specs.declared.hearing.Hearing.{Hearing}

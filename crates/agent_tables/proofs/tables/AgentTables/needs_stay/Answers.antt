@@ -5,7 +5,7 @@ use Rattle.std.specs.Option.{option_copied}
 use Rattle.ov_types.specs.Keys.{low_key_cmp}
 use Rattle.ov_types.specs.declared.objects.LowKey.{LowKey}
 use Rattle.ov_types.specs.declared.objects.LowKey.TheVariants.{Acl}
-use Rattle.node_items.specs.NodeModel.Agent.{Holdings}
+use Rattle.node_core.specs.NodeModel.Agent.{Holdings}
 use Rattle.agent_tables.specs.Listed.{needed_at, object_in_use}
 use Rattle.agent_tables.specs.Touched.{Tabled, is_listed}
 use Rattle.agent_tables.specs.Views.{heard_of}

@@ -1,6 +1,6 @@
 use Rattle.std.proofs.Common.{◌≡◌, List, ap, sym, subst, ◌∙◌, map}
 use Rattle.ov_types.specs.declared.numbers.InstanceId.{InstanceId}
-use Rattle.node_items.specs.NodeModel.Agent.{Holdings, is_needed}
+use Rattle.node_core.specs.NodeModel.Agent.{Holdings, is_needed}
 use Rattle.agent_tables.specs.Routes.{Table}
 use Rattle.agent_tables.specs.Touched.{AreTables, Tabled, is_listed}
 use Rattle.agent_tables.specs.Views.{heard_of}

@@ -2,7 +2,7 @@ use Rattle.std.proofs.Common.{◌≡◌, List, ap, sym, subst, refl, ◌∙◌, 
 use Rattle.std.specs.List.Sorted.{IsStrictlySortedBy}
 use Rattle.ov_sync.proofs.Ascending.{ascends}
 use Rattle.ov_types.specs.declared.numbers.InstanceId.{InstanceId}
-use Rattle.node_items.specs.NodeModel.Agent.{Holdings, needed, routes, rows_heard}
+use Rattle.node_core.specs.NodeModel.Agent.{Holdings, needed, routes, rows_heard}
 use Rattle.agent_tables.specs.Routes.{Table, instance_order, routes_of}
 use Rattle.agent_tables.specs.Touched.{is_listed}
 use Rattle.agent_tables.specs.Views.{heard_of}

@@ -1,7 +1,7 @@
 use Rattle.std.specs.Prelude.{[]}
 use Rattle.node_core.specs.Whole.{session_of}
 use Rattle.node_core.specs.NodeModel.Step.{post}
-use Rattle.node_items.proofs.Begun.{begun_bytes, begun_closed, begun_opened, left_few}
+use Rattle.node_core.proofs.Begun.{begun_bytes, begun_closed, begun_opened, left_few}
 use Rattle.node_core.specs.NodeModel.Naming.{config}
 use Rattle.config_node.specs.Beginning.{session_at}
 use Rattle.config_node.proofs.ends.ConfigEnds.apply.Goals as goal

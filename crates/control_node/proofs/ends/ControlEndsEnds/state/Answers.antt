@@ -3,7 +3,7 @@ use Rattle.std.specs.FinMap.{empty}
 use Rattle.bgp_session.specs.declared.event.State.{State}
 use Rattle.item_wire.specs.declared.event.ItemState.{ItemState}
 use Rattle.node_core.specs.Resting.{end_at}
-use Rattle.node_items.specs.Beginning as item
+use Rattle.node_core.specs.Beginning as item
 use Rattle.node_core.specs.NodeModel.Paths.{Told}
 use Rattle.node_core.specs.NodeModel.Step.{Post, post}
 use Rattle.node_routes.specs.Beginning as route

@@ -1,5 +1,0 @@
-use Rattle.node_items.proofs.Changes.{change_of_its_item}
-use Rattle.node_items.proofs.laws.changes_are_items.Goals as goal
-
-pub returns : goal.returns
-returns c = change_of_its_item

@@ -1,5 +1,0 @@
-use Rattle.node_items.proofs.Records.{hello_heard}
-use Rattle.node_items.proofs.laws.hellos_are_heard.Goals as goal
-
-pub returns-clause-first : goal.returns-clause-first
-returns-clause-first c = hello_heard

@@ -1,5 +1,0 @@
-use Rattle.node_items.proofs.Changes.{fits_told}
-use Rattle.node_items.proofs.laws.what_fits_can_be_told.Goals as goal
-
-pub returns : goal.returns
-returns c = fits_told

@@ -1,5 +1,0 @@
-use Rattle.node_items.proofs.Changes.{read_fits}
-use Rattle.node_items.proofs.laws.what_is_read_can_be_told.Goals as goal
-
-pub returns : goal.returns
-returns c = read_fits
