@@ -33,8 +33,8 @@ use Rattle.config_check.specs.Sentences.{IsValid}
 use Rattle.config_check.proofs.Validity.{valid_iff}
 use Rattle.reach_plain.proofs.PolicyRules.Lists.{mapped_is}
 use Rattle.transform_model.proofs.Prefixes.{port_number}
-use Rattle.transform_forwarding_laws.proofs.Agents.{agent_is, agents_of, forwarder}
-use Rattle.transform_forwarding_laws.proofs.Sources.{starts_nowhere}
+use Rattle.transform_model.proofs.Agents.{agent_is, agents_of, forwarder}
+use Rattle.transform_model.proofs.Sources.{starts_nowhere}
 use Rattle.inspect_walks.proofs.Gathered.{are_agents}
 use Rattle.inspect_walks.specs.Taking.{told_at, told_steps}
 use Rattle.inspect_walks.specs.Told.{told, told_walk}

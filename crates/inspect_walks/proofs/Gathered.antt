@@ -13,7 +13,7 @@ use Rattle.config_types.specs.declared.topology.Topology.{Topology}
 use Rattle.config_check.specs.Rules.{first_broken}
 use Rattle.transform_model.specs.Compiled.{agent_rows, compiled_tables, forwarders}
 use Rattle.transform_model.specs.declared.tables.Compiled.{Compiled}
-use Rattle.transform_forwarding_laws.proofs.Agents.{agents_of, forwarder}
+use Rattle.transform_model.proofs.Agents.{agents_of, forwarder}
 use Rattle.inspect_walks.specs.Ordered.{AreOrdered}
 use Rattle.inspect_walks.specs.Walks.{compiled_agents}
 use Rattle.inspect_walks.proofs.Ordered.{rows_in_order}

@@ -6,7 +6,7 @@ use Rattle.config_types.specs.Form.{has_config_form}
 use Rattle.config_check.specs.Checked.{Checked}
 use Rattle.config_check.specs.Rules.{first_broken}
 use Rattle.reach_plain.specs.Reachability.{reachability}
-use Rattle.transform_forwarding_laws.proofs.Law.{forwarding_is_reachability, none_expires}
+use Rattle.transform_model.proofs.Law.{forwarding_is_reachability, none_expires}
 use Rattle.inspect_walks.specs.Following.{IsWalk}
 use Rattle.inspect_walks.specs.Told.{TellsWalk, told_walk}
 use Rattle.inspect_walks.specs.Walks.{compiled_agents, compiled_walk}

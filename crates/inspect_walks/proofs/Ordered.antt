@@ -29,7 +29,7 @@ use Rattle.transform_model.proofs.InUse.{few_services}
 use Rattle.transform_model.proofs.Lemmas.{labels_are_exactly_these, routes_are_exactly_these}
 use Rattle.transform_model.proofs.Lists.{place_within}
 use Rattle.transform_model.proofs.Prefixes.{use_number}
-use Rattle.transform_forwarding_laws.proofs.Valid.{subnet_form}
+use Rattle.transform_model.proofs.Valid.{subnet_form}
 use Rattle.inspect_walks.specs.Ordered.{AreOrdered}
 
 abbrev IsFormed : Block → Type 0

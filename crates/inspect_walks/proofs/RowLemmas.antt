@@ -18,7 +18,7 @@ use Rattle.ov_types.proofs.FirstLemmas.{find_none, found_is}
 use Rattle.config_check.proofs.OneHome.{two_among}
 use Rattle.route_targets.specs.Forwarding.{route_in}
 use Rattle.transform_model.proofs.Lists.{given, gives}
-use Rattle.transform_forwarding_laws.proofs.Lists.{no_longest, none_contains}
+use Rattle.transform_model.proofs.OneFound.{no_longest, none_contains}
 use Rattle.vrouter_fib.proofs.LongestLemmas.{longest_is, one_prefix}
 use Rattle.inspect_walks.specs.Taking.{has_key}
 

@@ -18,7 +18,7 @@ use Rattle.ov_types.specs.declared.verdict.Verdict.TheVariants as Says
 use Rattle.route_targets.specs.Forwarding.{Forwarder, admitted, departed, forwarding, looked_up, route_in, source_at, walk}
 use Rattle.packet_trace.specs.Lookups.{Arrives, Leading, Lookup, Passes, Stops, leading, lookups, lookups_at, lookups_by, lookups_from, on_from}
 use Rattle.packet_trace.proofs.Walks.{by_route, outcome_by}
-use Rattle.transform_forwarding_laws.proofs.Lists.{none_contains}
+use Rattle.transform_model.proofs.OneFound.{none_contains}
 use Rattle.vrouter_fib.proofs.LongestLemmas.{longest_is}
 use Rattle.inspect_walks.specs.Following.{EndAs, GoOn, IsStart, IsStep, IsWalk, Starts, Takes, ended, ended_by}
 use Rattle.inspect_walks.specs.Walks.{Step, row_taken, step_of, walk_over}

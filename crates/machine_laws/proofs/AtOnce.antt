@@ -11,7 +11,7 @@ use Rattle.schedule_script.specs.ConfigCheck.Edits as edits
 use Rattle.schedule_script.specs.ConfigCheck.Edits.{edit_fault}
 use Rattle.std.specs.Prelude.{◌⊎◌}
 use Rattle.ov_types.specs.declared.packet.Packet.{Packet}
-use Rattle.transform_forwarding_laws.specs.ReachPlain.Reachability.{reachability}
+use Rattle.transform_model.specs.ReachPlain.Reachability.{reachability}
 use Rattle.machine_laws.specs.Headline.{IsWritten}
 use Rattle.ov_types.specs.declared.numbers.InstanceId.{InstanceId}
 use Rattle.std.proofs.Common.{arith}

@@ -16,8 +16,8 @@ use Rattle.ov_types.specs.declared.objects.LowValue.{LowValue}
 use Rattle.ov_types.specs.declared.prefix.Addr.{Addr}
 use Rattle.ov_types.specs.declared.rows.Entry.{Entry as RouteEntry}
 use Rattle.ov_types.specs.declared.rows.TableRow.{TableRow}
-use Rattle.transform_forwarding_laws.specs.TransformModel.Compiled.{route_of}
-use Rattle.transform_forwarding_laws.specs.TransformModel.Tables.{Row as TableEntry}
+use Rattle.transform_model.specs.Compiled.{route_of}
+use Rattle.transform_model.specs.Tables.{Row as TableEntry}
 use Rattle.node_laws.specs.NodeModel.Agent as agent
 use Rattle.node_laws.specs.NodeModel.Agent.{acl_entry, as_hop, attached, is_needed, needed_by, slice_in_use}
 use Rattle.node_laws.specs.NodeModel.Keys.{Row}

@@ -13,9 +13,9 @@ use Rattle.config_types.specs.declared.topology.Node.{Node}
 use Rattle.schedule_script.specs.ConfigCheck.Finding.{node_named}
 use Rattle.schedule_script.specs.ConfigCheck.Sentences.{IsValid}
 use Rattle.schedule_script.proofs.ConfigCheck.Validity.{valid_iff}
-use Rattle.transform_forwarding_laws.specs.TransformModel.Compiled.{agent_rows}
-use Rattle.transform_forwarding_laws.specs.TransformModel.Tables.{control_rows}
-use Rattle.transform_forwarding_laws.proofs.TransformModel.Rows.{node_is}
+use Rattle.transform_model.specs.Compiled.{agent_rows}
+use Rattle.transform_model.specs.Tables.{control_rows}
+use Rattle.transform_model.proofs.Rows.{node_is}
 use Rattle.node_laws.specs.NodeModel.Members.{Member}
 use Rattle.node_laws.proofs.NodeModel.Members.{any_in, in_map, member_of}
 use Rattle.machine_model.specs.Events.{after, is_node, shown}

@@ -17,16 +17,16 @@ use Rattle.ov_types.specs.declared.prefix.Addr.{Addr}
 use Rattle.config_types.specs.Form.{has_config_form}
 use Rattle.machine_model.specs.Setup.{Setup}
 use Rattle.schedule_script.specs.ConfigCheck.Sentences.{IsValid}
-use Rattle.transform_forwarding_laws.specs.TransformModel.IsRow.{IsRow, at_left_end, at_right_end, to_left_circuit, to_left_subnet, to_port, to_right_circuit, to_right_subnet}
-use Rattle.transform_forwarding_laws.specs.TransformModel.IsUse.{IsInstance, of_hop, of_network}
-use Rattle.transform_forwarding_laws.specs.TransformModel.Tables as tables
-use Rattle.transform_forwarding_laws.specs.TransformModel.Tables.{Row as TableEntry}
-use Rattle.transform_forwarding_laws.specs.TransformModel.Tables.{instance_table, instances}
-use Rattle.transform_forwarding_laws.proofs.TransformModel.Instances.{instance_is, is_instance}
-use Rattle.transform_forwarding_laws.proofs.TransformModel.Kept.{all_in_order, all_kept, instance_of_row}
+use Rattle.transform_model.specs.IsRow.{IsRow, at_left_end, at_right_end, to_left_circuit, to_left_subnet, to_port, to_right_circuit, to_right_subnet}
+use Rattle.transform_model.specs.IsUse.{IsInstance, of_hop, of_network}
+use Rattle.transform_model.specs.Tables as tables
+use Rattle.transform_model.specs.Tables.{Row as TableEntry}
+use Rattle.transform_model.specs.Tables.{instance_table, instances}
+use Rattle.transform_model.proofs.Instances.{instance_is, is_instance}
+use Rattle.transform_model.proofs.Kept.{all_in_order, all_kept, instance_of_row}
 use Rattle.policy_rules.proofs.Lists.{is_joined, joined_is}
-use Rattle.transform_forwarding_laws.proofs.TransformModel.Lists.{place_within}
-use Rattle.transform_forwarding_laws.proofs.TransformModel.Rows.{rows_iff}
+use Rattle.transform_model.proofs.Lists.{place_within}
+use Rattle.transform_model.proofs.Rows.{rows_iff}
 use Rattle.node_laws.specs.NodeModel.Maps.{Map}
 use Rattle.node_laws.specs.NodeModel.Members.{Member}
 use Rattle.node_laws.specs.NodeModel.Paths.{Holdings}

@@ -1,11 +1,11 @@
 -- Once a network is settled, each packet goes where policies say.
-use Rattle.transform_forwarding_laws.specs.ReachPlain.Reachability.{reachability}
+use Rattle.transform_model.specs.ReachPlain.Reachability.{reachability}
 use Rattle.std.specs.List.{list_any}
 use Rattle.std.specs.Prelude.{List, is_some, map, true, [], ◌∷◌, ◌≡◌}
 use Rattle.std.specs.declared.option.Option.TheVariants.{Some}
 use Rattle.std.specs.declared.option.Option.{Option}
 use Rattle.chain_expand.proofs.Settled.{settled}
-use Rattle.transform_forwarding_laws.proofs.Law.{forwarding_is_reachability}
+use Rattle.transform_model.proofs.Law.{forwarding_is_reachability}
 use Rattle.std.proofs.Common.{ap, inl, inr, refl, sym, ◌∙◌}
 use Rattle.std.proofs.lemmas.Bool.{or_right}
 use Rattle.ov_types.specs.First.{same_name}
@@ -19,9 +19,9 @@ use Rattle.config_types.specs.declared.topology.Node.{Node}
 use Rattle.schedule_script.specs.ConfigCheck.Finding.{node_named}
 use Rattle.schedule_script.specs.ConfigCheck.Sentences.{IsValid}
 use Rattle.schedule_script.proofs.ConfigCheck.Validity.{valid_iff}
-use Rattle.transform_forwarding_laws.specs.TransformModel.Compiled as compiled_rows
-use Rattle.transform_forwarding_laws.proofs.TransformModel.Needed.{asked}
-use Rattle.transform_forwarding_laws.proofs.TransformModel.Rows.{is_node}
+use Rattle.transform_model.specs.Compiled as compiled_rows
+use Rattle.transform_model.proofs.Needed.{asked}
+use Rattle.transform_model.proofs.Rows.{is_node}
 use Rattle.node_laws.specs.NodeModel.Agent as agent
 use Rattle.node_laws.specs.NodeModel.Members.{Member}
 use Rattle.machine_model.specs.Events as events

@@ -1,7 +1,7 @@
 -- Access lists enter only uses that stand between their two networks.
-use Rattle.transform_forwarding_laws.specs.AclCompile.Oriented.{acl_rules, backwards, does, entries_of, forward_entry, forwards, hop_entered, mirrored_entry, oriented}
-use Rattle.transform_forwarding_laws.proofs.AclCompile.Bounded.{keeps_bounds}
-use Rattle.transform_forwarding_laws.proofs.AclCompile.Kept.{chain_is_short}
+use Rattle.transform_model.specs.AclCompile.Oriented.{acl_rules, backwards, does, entries_of, forward_entry, forwards, hop_entered, mirrored_entry, oriented}
+use Rattle.transform_model.proofs.AclCompile.Bounded.{keeps_bounds}
+use Rattle.transform_model.proofs.AclCompile.Kept.{chain_is_short}
 use Rattle.std.specs.List.{Contains}
 use Rattle.std.specs.Prelude.{Bool, IsTrue, List, cond, false, true, ℕ, [], ◌&&◌, ◌∷◌, ◌≡◌, ◌≢◌, ◌≤◌}
 use Rattle.std.specs.declared.option.Option.TheVariants.{Some}
@@ -28,7 +28,7 @@ use Rattle.policy_rules.specs.Related.{all_rules, fits, rules_between}
 use Rattle.policy_rules.specs.Standing.{Fits, IsBetween, IsEnd}
 use Rattle.policy_rules.specs.declared.numbered.NumberedRule.{NumberedRule}
 use Rattle.policy_rules.proofs.Standing.{between_iff, fits_iff}
-use Rattle.transform_forwarding_laws.proofs.TransformModel.InUse.{among_all, numbered}
+use Rattle.transform_model.proofs.InUse.{among_all, numbered}
 use Rattle.node_laws.specs.NodeModel.Members.{Member}
 use Rattle.node_laws.specs.NodeModel.Uses.{is_hop, use_of}
 use Rattle.node_laws.proofs.NodeModel.Members.{from_flat_map, in_either, member_when}

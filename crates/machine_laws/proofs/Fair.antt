@@ -11,7 +11,7 @@ use Rattle.ov_types.specs.declared.objects.LowKey.{LowKey}
 use Rattle.ov_types.specs.declared.objects.LowValue.{LowValue}
 use Rattle.route_targets.specs.Numbers.{target_of}
 use Rattle.machine_model.specs.Setup.{Setup}
-use Rattle.transform_forwarding_laws.specs.TransformModel.Objects.{low_objects}
+use Rattle.transform_model.specs.Objects.{low_objects}
 use Rattle.node_laws.specs.NodeModel.Agent.{needed_by, publication, slice_in_use, told_of}
 use Rattle.node_laws.specs.NodeModel.Keys.{Key, Low, Vpn, key_cmp}
 use Rattle.node_laws.specs.NodeModel.Maps.{Map, objects}

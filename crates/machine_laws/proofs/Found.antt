@@ -19,7 +19,7 @@ use Rattle.ov_types.specs.declared.rows.Entry.{Entry as RouteEntry}
 use Rattle.ov_types.proofs.FirstLemmas.{found_is}
 use Rattle.route_targets.specs.Forwarding.{Forwarder, agent_at, attached, looked_up, route_in}
 use Rattle.route_targets.specs.Numbers.{circuit_label_of, port_label_of}
-use Rattle.transform_forwarding_laws.proofs.TransformModel.Lists.{mapped_some}
+use Rattle.transform_model.proofs.Lists.{mapped_some}
 use Rattle.node_laws.specs.NodeModel.Members.{Member}
 use Rattle.node_laws.proofs.NodeModel.Members.{from_filter_map, none_some}
 use Rattle.node_laws.proofs.NodeModel.Members.{member_of}

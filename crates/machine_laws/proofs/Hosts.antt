@@ -15,14 +15,14 @@ use Rattle.config_types.specs.declared.topology.Node.{Node}
 use Rattle.machine_model.specs.Setup.{Setup}
 use Rattle.schedule_script.specs.ConfigCheck.Sentences.{IsValid}
 use Rattle.schedule_script.proofs.ConfigCheck.OneHome.{two_among}
-use Rattle.transform_forwarding_laws.specs.TransformModel.IsRow.{IsPort, IsRow, at_left_end, at_right_end, to_left_circuit, to_port, to_right_circuit}
-use Rattle.transform_forwarding_laws.specs.TransformModel.Tables.{Row as TableEntry}
-use Rattle.transform_forwarding_laws.specs.TransformModel.Tables.{circuit_route, host_route, instance_table}
-use Rattle.transform_forwarding_laws.specs.TransformModel.Uses.{Circuit}
-use Rattle.transform_forwarding_laws.proofs.TransformModel.Circuits.{left_instance, right_instance}
-use Rattle.transform_forwarding_laws.proofs.TransformModel.Objects.{one_numbered}
-use Rattle.transform_forwarding_laws.proofs.TransformModel.Prefixes.{network_number, table_prefixes}
-use Rattle.transform_forwarding_laws.proofs.TransformModel.Rows.{rows_iff}
+use Rattle.transform_model.specs.IsRow.{IsPort, IsRow, at_left_end, at_right_end, to_left_circuit, to_port, to_right_circuit}
+use Rattle.transform_model.specs.Tables.{Row as TableEntry}
+use Rattle.transform_model.specs.Tables.{circuit_route, host_route, instance_table}
+use Rattle.transform_model.specs.Uses.{Circuit}
+use Rattle.transform_model.proofs.Circuits.{left_instance, right_instance}
+use Rattle.transform_model.proofs.Objects.{one_numbered}
+use Rattle.transform_model.proofs.Prefixes.{network_number, table_prefixes}
+use Rattle.transform_model.proofs.Rows.{rows_iff}
 use Rattle.machine_laws.specs.Compiled.{Attachment, circuit_prefix, row_of}
 use Rattle.machine_laws.proofs.Views.{far}
 use Rattle.machine_laws.proofs.Imports.{Imported, hop_import, network_import}

@@ -21,17 +21,17 @@ use Rattle.config_types.specs.Form.{has_config_form}
 use Rattle.config_types.specs.declared.config.Network.{Network}
 use Rattle.machine_model.specs.Setup.{Setup}
 use Rattle.schedule_script.specs.ConfigCheck.Sentences.{IsValid}
-use Rattle.transform_forwarding_laws.specs.TransformModel.IsObject.{AreImports, IsObject, of_left_circuit, of_network, of_networks, of_port, of_right_circuit, of_use}
-use Rattle.transform_forwarding_laws.specs.TransformModel.IsUse.{IsUse}
-use Rattle.transform_forwarding_laws.specs.TransformModel.Objects.{LowObject}
-use Rattle.transform_forwarding_laws.specs.TransformModel.Objects.{acl_objects, circuit_objects, imports_of, instance_object, low_objects, port_object, use_object}
-use Rattle.transform_forwarding_laws.specs.TransformModel.Objects.{objects as made_objects}
-use Rattle.transform_forwarding_laws.specs.TransformModel.Uses.{ConfiguredUse as InEffect}
-use Rattle.transform_forwarding_laws.specs.TransformModel.Uses.{uses as in_effect}
+use Rattle.transform_model.specs.IsObject.{AreImports, IsObject, of_left_circuit, of_network, of_networks, of_port, of_right_circuit, of_use}
+use Rattle.transform_model.specs.IsUse.{IsUse}
+use Rattle.transform_model.specs.Objects.{LowObject}
+use Rattle.transform_model.specs.Objects.{acl_objects, circuit_objects, imports_of, instance_object, low_objects, port_object, use_object}
+use Rattle.transform_model.specs.Objects.{objects as made_objects}
+use Rattle.transform_model.specs.Uses.{ConfiguredUse as InEffect}
+use Rattle.transform_model.specs.Uses.{uses as in_effect}
 use Rattle.policy_rules.proofs.Lists.{is_mapped}
-use Rattle.transform_forwarding_laws.proofs.TransformModel.LowKeys.{low_iff, low_kept}
-use Rattle.transform_forwarding_laws.proofs.TransformModel.Objects.{one_numbered}
-use Rattle.transform_forwarding_laws.proofs.TransformModel.Prefixes.{network_number}
+use Rattle.transform_model.proofs.LowKeys.{low_iff, low_kept}
+use Rattle.transform_model.proofs.Objects.{one_numbered}
+use Rattle.transform_model.proofs.Prefixes.{network_number}
 use Rattle.node_laws.specs.NodeModel.Keys.{Low}
 use Rattle.node_laws.specs.NodeModel.Maps.{Map, as_object, object, objects}
 use Rattle.node_laws.specs.NodeModel.Members.{Member}

@@ -1,11 +1,11 @@
 -- What the low-level objects of a valid configuration are, as control nodes read them: attachments and uses.
-use Rattle.transform_forwarding_laws.specs.AclCompile.Oriented.{ascending}
+use Rattle.transform_model.specs.AclCompile.Oriented.{ascending}
 use Rattle.std.specs.List.{All, AllPairs, AllZip, Any, Contains}
 use Rattle.std.specs.Prelude.{IsTrue, List, length, nat_le, true, ℕ, [], ◌+◌, ◌-◌, ◌<◌, ◌∷◌, ◌≡◌, ◌≤◌}
 use Rattle.std.specs.declared.option.Option.TheVariants.{Some}
 use Rattle.std.specs.declared.option.Option.{Option}
-use Rattle.transform_forwarding_laws.proofs.AclCompile.Orders.{ascending_permutes}
-use Rattle.transform_forwarding_laws.proofs.Valid.{node_of_service}
+use Rattle.transform_model.proofs.AclCompile.Orders.{ascending_permutes}
+use Rattle.transform_model.proofs.Valid.{node_of_service}
 use Rattle.std.proofs.Common.{ap, arith, inl, refl, subst, sym, ◌∙◌}
 use Rattle.std.proofs.lemmas.Bool.{and_parts, false_from_ne_true, leb-true}
 use Rattle.std.proofs.lemmas.List.Elements.{All-contains}
@@ -33,16 +33,16 @@ use Rattle.schedule_script.specs.ConfigCheck.Sentences.{AreApart, IsAround, IsVa
 use Rattle.schedule_script.proofs.ConfigCheck.Circuits.{circuits_iff}
 use Rattle.schedule_script.proofs.ConfigCheck.Nested.{overlap_at}
 use Rattle.schedule_script.proofs.ConfigCheck.OneHome.{HasBlocks, blocks_of, one_home}
-use Rattle.transform_forwarding_laws.specs.TransformModel.IsObject.{IsHop, IsObject, of_left_circuit, of_network, of_networks, of_port, of_right_circuit, of_use}
-use Rattle.transform_forwarding_laws.specs.TransformModel.IsRow.{IsCircuitAt as IsCircuitAtNode}
-use Rattle.transform_forwarding_laws.specs.TransformModel.IsRow.{IsPort}
-use Rattle.transform_forwarding_laws.specs.TransformModel.IsUse.{IsLeftCircuit, IsRightCircuit, IsUse}
-use Rattle.transform_forwarding_laws.specs.TransformModel.Objects.{LowObject, attached_circuit, attached_port, low_objects}
-use Rattle.transform_forwarding_laws.specs.TransformModel.Uses.{Circuit}
-use Rattle.transform_forwarding_laws.specs.TransformModel.Uses.{ConfiguredUse as InEffect}
-use Rattle.transform_forwarding_laws.proofs.TransformModel.InUse.{around_right, ends_differ, few_services, services_are}
-use Rattle.transform_forwarding_laws.proofs.TransformModel.LowKeys.{low_iff}
-use Rattle.transform_forwarding_laws.proofs.TransformModel.Prefixes.{network_number, use_number}
+use Rattle.transform_model.specs.IsObject.{IsHop, IsObject, of_left_circuit, of_network, of_networks, of_port, of_right_circuit, of_use}
+use Rattle.transform_model.specs.IsRow.{IsCircuitAt as IsCircuitAtNode}
+use Rattle.transform_model.specs.IsRow.{IsPort}
+use Rattle.transform_model.specs.IsUse.{IsLeftCircuit, IsRightCircuit, IsUse}
+use Rattle.transform_model.specs.Objects.{LowObject, attached_circuit, attached_port, low_objects}
+use Rattle.transform_model.specs.Uses.{Circuit}
+use Rattle.transform_model.specs.Uses.{ConfiguredUse as InEffect}
+use Rattle.transform_model.proofs.InUse.{around_right, ends_differ, few_services, services_are}
+use Rattle.transform_model.proofs.LowKeys.{low_iff}
+use Rattle.transform_model.proofs.Prefixes.{network_number, use_number}
 use Rattle.node_laws.specs.NodeModel.Maps.{objects}
 use Rattle.node_laws.specs.NodeModel.Members.{Member}
 use Rattle.node_laws.specs.NodeModel.Ranks.{AreOrdered}

@@ -1,5 +1,5 @@
 -- The compiled tables of low-level objects are the configuration's.
-use Rattle.transform_forwarding_laws.specs.AclCompile.Oriented.{ascending}
+use Rattle.transform_model.specs.AclCompile.Oriented.{ascending}
 use Rattle.std.specs.List.{Contains}
 use Rattle.std.specs.Prelude.{Bool, IsTrue, cond, false, length, suc, true, ℕ, ◌+◌, ◌-◌, ◌<◌, ◌≡◌, ◌≤◌}
 use Rattle.std.proofs.Common.{ap, arith, inl, inr, subst, sym, ◌*◌, ◌^◌, ◌∙◌}
@@ -11,13 +11,13 @@ use Rattle.config_types.specs.Form.{has_config_form}
 use Rattle.config_types.specs.declared.config.Network.{Network}
 use Rattle.machine_model.specs.Setup.{Setup}
 use Rattle.schedule_script.specs.ConfigCheck.Sentences.{IsValid}
-use Rattle.transform_forwarding_laws.specs.TransformModel.IsRow.{HoldsPort, IsRow, to_left_subnet, to_right_subnet}
-use Rattle.transform_forwarding_laws.specs.TransformModel.IsUse.{IsLeftCircuit, IsRightCircuit, IsUse}
-use Rattle.transform_forwarding_laws.specs.TransformModel.Uses.{ConfiguredUse as InEffect}
-use Rattle.transform_forwarding_laws.proofs.TransformModel.Circuits.{left_instance, left_number, right_instance, right_number}
-use Rattle.transform_forwarding_laws.proofs.TransformModel.InUse.{one_use}
-use Rattle.transform_forwarding_laws.proofs.TransformModel.Lists.{place_within}
-use Rattle.transform_forwarding_laws.proofs.TransformModel.Prefixes.{network_number}
+use Rattle.transform_model.specs.IsRow.{HoldsPort, IsRow, to_left_subnet, to_right_subnet}
+use Rattle.transform_model.specs.IsUse.{IsLeftCircuit, IsRightCircuit, IsUse}
+use Rattle.transform_model.specs.Uses.{ConfiguredUse as InEffect}
+use Rattle.transform_model.proofs.Circuits.{left_instance, left_number, right_instance, right_number}
+use Rattle.transform_model.proofs.InUse.{one_use}
+use Rattle.transform_model.proofs.Lists.{place_within}
+use Rattle.transform_model.proofs.Prefixes.{network_number}
 use Rattle.node_laws.specs.NodeModel.Maps.{Map}
 use Rattle.node_laws.specs.NodeModel.Members.{Member}
 use Rattle.node_laws.specs.NodeModel.Reaching.{Side, hop_at, network, subnets}

@@ -1,7 +1,7 @@
 -- Each row of the configuration's tables is one of the low-level objects' tables.
 use Rattle.std.specs.List.{Contains}
 use Rattle.std.specs.Prelude.{IsTrue, false, length, nat_le, nat_lt, suc, true, ℕ, [], ◌+◌, ◌-◌, ◌<◌, ◌∷◌, ◌≡◌, ◌≤◌}
-use Rattle.transform_forwarding_laws.proofs.Valid.{node_of_port}
+use Rattle.transform_model.proofs.Valid.{node_of_port}
 use Rattle.std.proofs.Common.{ap, arith, inl, inr, refl, subst, sym, ◌∙◌}
 use Rattle.std.proofs.lemmas.Bool.{and_from, and_parts, le-leb, ltb-true}
 use Rattle.ov_types.specs.Prefix.{Block, contains, host_prefix, is_inside, size_of}
@@ -12,10 +12,10 @@ use Rattle.config_types.specs.Form.{has_config_form}
 use Rattle.config_types.specs.declared.config.Network.{Network}
 use Rattle.machine_model.specs.Setup.{Setup}
 use Rattle.schedule_script.specs.ConfigCheck.Sentences.{IsValid}
-use Rattle.transform_forwarding_laws.specs.TransformModel.IsRow.{HoldsPort, IsPort, IsRow, at_left_end, at_right_end, to_left_circuit, to_left_subnet, to_port, to_right_circuit, to_right_subnet}
-use Rattle.transform_forwarding_laws.specs.TransformModel.Tables.{Row as TableEntry}
-use Rattle.transform_forwarding_laws.proofs.TransformModel.Circuits.{left_instance, right_instance}
-use Rattle.transform_forwarding_laws.proofs.TransformModel.Lists.{place_within}
+use Rattle.transform_model.specs.IsRow.{HoldsPort, IsPort, IsRow, at_left_end, at_right_end, to_left_circuit, to_left_subnet, to_port, to_right_circuit, to_right_subnet}
+use Rattle.transform_model.specs.Tables.{Row as TableEntry}
+use Rattle.transform_model.proofs.Circuits.{left_instance, right_instance}
+use Rattle.transform_model.proofs.Lists.{place_within}
 use Rattle.node_laws.specs.NodeModel.Maps.{Map}
 use Rattle.node_laws.specs.NodeModel.Members.{Member}
 use Rattle.node_laws.specs.NodeModel.Paths.{Path}

@@ -22,15 +22,15 @@ use Rattle.ov_types.proofs.FirstLemmas.{pairs_head, pairs_tail}
 use Rattle.config_types.specs.Form.{has_config_form}
 use Rattle.machine_model.specs.Setup.{Setup}
 use Rattle.schedule_script.specs.ConfigCheck.Sentences.{IsValid}
-use Rattle.transform_forwarding_laws.specs.TransformModel.Compiled as compiled_rows
-use Rattle.transform_forwarding_laws.specs.TransformModel.Compiled.{concerns, route_of, slice_of}
-use Rattle.transform_forwarding_laws.specs.TransformModel.IsNeeded.{IsNeeded as IsNeededThere}
-use Rattle.transform_forwarding_laws.specs.TransformModel.IsNeeded.{IsRoute}
-use Rattle.transform_forwarding_laws.specs.TransformModel.IsRow.{IsRow}
-use Rattle.transform_forwarding_laws.specs.TransformModel.Objects.{LowObject}
-use Rattle.transform_forwarding_laws.specs.TransformModel.Objects.{low_objects}
-use Rattle.transform_forwarding_laws.proofs.TransformModel.AgentRows.{routes_iff, routes_in_order}
-use Rattle.transform_forwarding_laws.proofs.TransformModel.Needed.{needed_iff}
+use Rattle.transform_model.specs.Compiled as compiled_rows
+use Rattle.transform_model.specs.Compiled.{concerns, route_of, slice_of}
+use Rattle.transform_model.specs.IsNeeded.{IsNeeded as IsNeededThere}
+use Rattle.transform_model.specs.IsNeeded.{IsRoute}
+use Rattle.transform_model.specs.IsRow.{IsRow}
+use Rattle.transform_model.specs.Objects.{LowObject}
+use Rattle.transform_model.specs.Objects.{low_objects}
+use Rattle.transform_model.proofs.AgentRows.{routes_iff, routes_in_order}
+use Rattle.transform_model.proofs.Needed.{needed_iff}
 use Rattle.node_laws.specs.NodeModel.Agent.{acl_entry, attached, needed_by}
 use Rattle.node_laws.specs.NodeModel.Maps.{Map, objects}
 use Rattle.node_laws.specs.NodeModel.Members.{Member}

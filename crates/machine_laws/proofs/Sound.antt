@@ -1,8 +1,8 @@
 -- The low-level objects of a valid configuration are sound.
-use Rattle.transform_forwarding_laws.specs.AclCompile.Oriented.{ascending}
+use Rattle.transform_model.specs.AclCompile.Oriented.{ascending}
 use Rattle.std.specs.List.{Any, Contains}
 use Rattle.std.specs.Prelude.{Bool, IsTrue, cond, false, length, not, suc, true, ℕ, ◌+◌, ◌-◌, ◌<◌, ◌≡◌, ◌≤◌}
-use Rattle.transform_forwarding_laws.proofs.Valid.{holds_port_address, node_of_service}
+use Rattle.transform_model.proofs.Valid.{holds_port_address, node_of_service}
 use Rattle.std.proofs.Common.{ap, arith, refl, subst, sym, ◌*◌, ◌∙◌}
 use Rattle.std.proofs.lemmas.Bool.{false_from_ne_true, true≢false}
 use Rattle.ov_types.specs.Prefix.{Block, contains, host_prefix, is_inside}
@@ -15,14 +15,14 @@ use Rattle.config_types.specs.declared.config.Port.{Port}
 use Rattle.config_types.specs.declared.topology.Node.{Node}
 use Rattle.machine_model.specs.Setup.{Setup}
 use Rattle.schedule_script.specs.ConfigCheck.Sentences.{IsValid}
-use Rattle.transform_forwarding_laws.specs.TransformModel.IsUse.{IsLeftCircuit, IsRightCircuit, IsUse}
-use Rattle.transform_forwarding_laws.specs.TransformModel.Uses.{Circuit}
-use Rattle.transform_forwarding_laws.specs.TransformModel.Uses.{ConfiguredUse as InEffect}
-use Rattle.transform_forwarding_laws.specs.TransformModel.Uses.{uses as in_effect}
-use Rattle.transform_forwarding_laws.proofs.TransformModel.Circuits.{left_instance, left_number, right_instance, right_number}
-use Rattle.transform_forwarding_laws.proofs.TransformModel.InUse.{services_are, uses_iff}
-use Rattle.transform_forwarding_laws.proofs.TransformModel.Lists.{place_within}
-use Rattle.transform_forwarding_laws.proofs.TransformModel.Prefixes.{network_number, use_number}
+use Rattle.transform_model.specs.IsUse.{IsLeftCircuit, IsRightCircuit, IsUse}
+use Rattle.transform_model.specs.Uses.{Circuit}
+use Rattle.transform_model.specs.Uses.{ConfiguredUse as InEffect}
+use Rattle.transform_model.specs.Uses.{uses as in_effect}
+use Rattle.transform_model.proofs.Circuits.{left_instance, left_number, right_instance, right_number}
+use Rattle.transform_model.proofs.InUse.{services_are, uses_iff}
+use Rattle.transform_model.proofs.Lists.{place_within}
+use Rattle.transform_model.proofs.Prefixes.{network_number, use_number}
 use Rattle.node_laws.specs.NodeModel.Maps.{Map}
 use Rattle.node_laws.specs.NodeModel.Members.{Member}
 use Rattle.node_laws.specs.NodeModel.Ranks.{AreOrdered}

@@ -10,14 +10,14 @@ use Rattle.config_types.specs.Form.{has_config_form}
 use Rattle.config_types.specs.declared.config.Network.{Network}
 use Rattle.schedule_script.specs.ConfigCheck.Sentences.{IsValid}
 use Rattle.policy_rules.specs.Standing.{AreRelated, LetsThrough}
-use Rattle.transform_forwarding_laws.specs.TransformModel.IsObject.{IsObject, of_left_circuit, of_network, of_networks, of_port, of_right_circuit, of_use}
-use Rattle.transform_forwarding_laws.specs.TransformModel.Objects.{LowObject, low_objects}
-use Rattle.transform_forwarding_laws.proofs.TransformModel.Circuits.{left_instance, left_number, right_instance, right_number}
-use Rattle.transform_forwarding_laws.proofs.TransformModel.InUse.{among_all, few_services, numbered}
-use Rattle.transform_forwarding_laws.proofs.TransformModel.Lists.{place_within}
-use Rattle.transform_forwarding_laws.proofs.TransformModel.LowKeys.{low_is}
-use Rattle.transform_forwarding_laws.proofs.TransformModel.Objects.{one_named}
-use Rattle.transform_forwarding_laws.proofs.TransformModel.Prefixes.{network_number, port_number}
+use Rattle.transform_model.specs.IsObject.{IsObject, of_left_circuit, of_network, of_networks, of_port, of_right_circuit, of_use}
+use Rattle.transform_model.specs.Objects.{LowObject, low_objects}
+use Rattle.transform_model.proofs.Circuits.{left_instance, left_number, right_instance, right_number}
+use Rattle.transform_model.proofs.InUse.{among_all, few_services, numbered}
+use Rattle.transform_model.proofs.Lists.{place_within}
+use Rattle.transform_model.proofs.LowKeys.{low_is}
+use Rattle.transform_model.proofs.Objects.{one_named}
+use Rattle.transform_model.proofs.Prefixes.{network_number, port_number}
 use Rattle.node_laws.specs.NodeModel.Keys.{Key}
 use Rattle.node_laws.specs.NodeModel.Members.{Member}
 use Rattle.node_laws.specs.NodeModel.Uses.{is_hop}
@@ -31,8 +31,8 @@ use Rattle.machine_model.proofs.Feed.{entries-low}
 use Rattle.machine_laws.proofs.Told.{pair}
 use Rattle.node_laws.proofs.NodeModel.Members.{contains_of}
 use Rattle.config_types.specs.declared.config.Rule.{Rule}
-use Rattle.transform_forwarding_laws.specs.TransformModel.IsUse.{IsUse}
-use Rattle.transform_forwarding_laws.specs.TransformModel.Uses.{ConfiguredUse}
+use Rattle.transform_model.specs.IsUse.{IsUse}
+use Rattle.transform_model.specs.Uses.{ConfiguredUse}
 use Rattle.schedule_script.specs.Ties.{AreNear, HasUse, IsTiedBy, Ties}
 use Rattle.machine_laws.specs.Tied.{AreTied, IsTied, IsTiedObject}
 use Rattle.machine_laws.proofs.Circuits.{next_hop, other_of_left, other_of_right, sides_in}

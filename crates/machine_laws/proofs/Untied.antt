@@ -9,7 +9,7 @@ use Rattle.config_types.specs.declared.config.Config.{Config}
 use Rattle.schedule_script.specs.ConfigCheck.Edits as edits
 use Rattle.schedule_script.specs.ConfigCheck.Edits.{edit_fault, missing_name}
 use Rattle.schedule_script.specs.ConfigCheck.Rules.{broken_id, broken_limit, broken_long, broken_loop, broken_name, broken_needs, broken_nested, broken_outside, broken_overlap, broken_reference, broken_reserved, broken_same, broken_taken, broken_twice, first_broken}
-use Rattle.transform_forwarding_laws.specs.ReachPlain.Reachability.{reachability}
+use Rattle.transform_model.specs.ReachPlain.Reachability.{reachability}
 use Rattle.schedule_script.specs.Ties.{HasPort, HasRelated}
 use Rattle.schedule_script.specs.Tying.{relates}
 use Rattle.machine_laws.specs.Headline.{IsWritten}

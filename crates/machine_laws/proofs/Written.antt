@@ -14,7 +14,7 @@ use Rattle.schedule_script.specs.ConfigCheck.Rules.{first_broken}
 use Rattle.schedule_script.specs.ConfigCheck.EditFault.TheVariants.{Missing, Rule}
 use Rattle.schedule_script.specs.ConfigCheck.EditFault.{EditFault}
 use Rattle.schedule_script.proofs.ConfigCheck.Validity.{valid_iff}
-use Rattle.transform_forwarding_laws.proofs.TransformModel.Needed.{asked}
+use Rattle.transform_model.proofs.Needed.{asked}
 use Rattle.node_laws.specs.NodeModel.Keys.{Key}
 use Rattle.node_laws.specs.NodeModel.Values.{Value}
 use Rattle.node_laws.proofs.NodeModel.Members.{none_some}

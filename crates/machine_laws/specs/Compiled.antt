@@ -21,8 +21,8 @@ use Rattle.route_targets.specs.Numbers.{circuit_address_of, circuit_instance_of,
 use Rattle.config_types.specs.declared.topology.Node.{Node}
 use Rattle.machine_model.specs.Setup.{Setup}
 use Rattle.schedule_script.specs.ConfigCheck.Finding.{node_named}
-use Rattle.transform_forwarding_laws.specs.TransformModel.Tables.{Row}
-use Rattle.transform_forwarding_laws.specs.TransformModel.Compiled.{route_of}
+use Rattle.transform_model.specs.Tables.{Row}
+use Rattle.transform_model.specs.Compiled.{route_of}
 use Rattle.node_laws.specs.NodeModel.Keys.{Key, Row as RowKey}
 use Rattle.node_laws.specs.NodeModel.Values.{Value, Entry}
 use Rattle.node_laws.specs.NodeModel.Maps.{Map, objects}

@@ -9,9 +9,9 @@ use Rattle.config_types.specs.Form.{has_config_form, has_topology_form}
 use Rattle.config_types.specs.declared.topology.Node.{Node}
 use Rattle.schedule_script.specs.ConfigCheck.Checked.{Checked}
 use Rattle.schedule_script.specs.ConfigCheck.Rules.{first_broken}
-use Rattle.transform_forwarding_laws.specs.ReachPlain.Reachability.{reachability}
-use Rattle.transform_forwarding_laws.specs.TransformModel.Compiled.{agent_rows}
-use Rattle.transform_forwarding_laws.specs.TransformModel.Tables.{control_rows}
+use Rattle.transform_model.specs.ReachPlain.Reachability.{reachability}
+use Rattle.transform_model.specs.Compiled.{agent_rows}
+use Rattle.transform_model.specs.Tables.{control_rows}
 use Rattle.node_laws.specs.NodeModel.Members.{Member}
 use Rattle.machine_model.specs.Setup.{Name, Setup, opening}
 use Rattle.machine_model.specs.Session.{Message}

@@ -12,7 +12,7 @@ use Rattle.ov_types.specs.declared.objects.LowValue.{LowValue}
 use Rattle.ov_types.specs.declared.objects.LowValue.TheVariants as low
 use Rattle.ov_types.specs.declared.prefix.Addr.{Addr}
 use Rattle.schedule_script.specs.ConfigCheck.Checked.{Checked}
-use Rattle.transform_forwarding_laws.specs.TransformModel.Objects.{low_objects}
+use Rattle.transform_model.specs.Objects.{low_objects}
 use Rattle.node_laws.specs.NodeModel.Agent.{needed_by, needed_for}
 use Rattle.node_laws.specs.NodeModel.Keys.{Low}
 use Rattle.node_laws.specs.NodeModel.Maps.{Map, as_object, object, objects}

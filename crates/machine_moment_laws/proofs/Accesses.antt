@@ -42,12 +42,12 @@ use Rattle.schedule_script.specs.ConfigCheck.Sentences.{NamesEnds}
 use Rattle.schedule_script.specs.Ties.{AreNear, Ties}
 use Rattle.acl_compile.specs.Laws.{entry_by}
 use Rattle.acl_compile.proofs.Deciding.{first_entry}
-use Rattle.transform_forwarding_laws.specs.AclCompile.Oriented.{acl_rules, ascending, does, put_prefix}
-use Rattle.transform_forwarding_laws.specs.TransformModel.IsUse.{IsUse}
-use Rattle.transform_forwarding_laws.specs.TransformModel.Uses.{ConfiguredUse}
-use Rattle.transform_forwarding_laws.proofs.Blocks.{Holds}
-use Rattle.transform_forwarding_laws.proofs.Lists.{of_any}
-use Rattle.transform_forwarding_laws.proofs.TransformModel.Objects.{one_named}
+use Rattle.transform_model.specs.AclCompile.Oriented.{acl_rules, ascending, does, put_prefix}
+use Rattle.transform_model.specs.IsUse.{IsUse}
+use Rattle.transform_model.specs.Uses.{ConfiguredUse}
+use Rattle.transform_model.proofs.Blocks.{Holds}
+use Rattle.transform_model.proofs.OneFound.{of_any}
+use Rattle.transform_model.proofs.Objects.{one_named}
 use Rattle.node_laws.specs.NodeModel.Members.{Member}
 use Rattle.node_laws.proofs.NodeModel.Members.{none_some}
 use Rattle.machine_laws.specs.Stood.{ComeFrom, InSome}

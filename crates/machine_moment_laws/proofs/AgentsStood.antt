@@ -20,9 +20,9 @@ use Rattle.ov_types.specs.declared.rows.Entry.{Entry as RouteEntry}
 use Rattle.route_targets.specs.Forwarding.{Forwarder}
 use Rattle.route_targets.specs.Numbers.{circuit_instance_of, circuit_label_of, hop_instance_of, left_circuit_of, right_circuit_of}
 use Rattle.config_types.specs.declared.config.Config.{Config}
-use Rattle.transform_forwarding_laws.proofs.TransformModel.InUse.{few_services}
-use Rattle.transform_forwarding_laws.proofs.TransformModel.Lists.{place_within}
-use Rattle.transform_forwarding_laws.proofs.TransformModel.Prefixes.{use_number}
+use Rattle.transform_model.proofs.InUse.{few_services}
+use Rattle.transform_model.proofs.Lists.{place_within}
+use Rattle.transform_model.proofs.Prefixes.{use_number}
 use Rattle.node_laws.specs.NodeModel.Agent as agent
 use Rattle.node_laws.specs.NodeModel.Agent.{needed_by, publication, slice_in_use, told_of}
 use Rattle.node_laws.specs.NodeModel.Keys.{Key, Row}

@@ -17,7 +17,7 @@ use Rattle.ov_types.specs.declared.rows.Entry.{Entry as RouteEntry}
 use Rattle.route_targets.specs.Numbers.{circuit_address_of}
 use Rattle.config_types.specs.declared.topology.Node.{Node}
 use Rattle.schedule_script.specs.ConfigCheck.Checked.{Checked}
-use Rattle.transform_forwarding_laws.proofs.Blocks.{host_is}
+use Rattle.transform_model.proofs.Blocks.{host_is}
 use Rattle.node_laws.specs.NodeModel.Agent as agent
 use Rattle.node_laws.specs.NodeModel.Agent.{as_hop, first_some}
 use Rattle.node_laws.specs.NodeModel.Keys.{key_cmp, Row}

@@ -28,8 +28,8 @@ use Rattle.config_types.specs.declared.topology.Node.{Node}
 use Rattle.schedule_script.specs.ConfigCheck.Checked.{Checked}
 use Rattle.reach_plain.proofs.Found.{finds}
 use Rattle.reach_plain.proofs.Kept.{valid}
-use Rattle.transform_forwarding_laws.proofs.Lists.{only_longest}
-use Rattle.transform_forwarding_laws.proofs.Valid.{one_node_at}
+use Rattle.transform_model.proofs.OneFound.{only_longest}
+use Rattle.transform_model.proofs.Valid.{one_node_at}
 use Rattle.node_laws.specs.NodeModel.Agent as agent
 use Rattle.node_laws.specs.NodeModel.Agent.{attached, slice_in_use}
 use Rattle.node_laws.specs.NodeModel.Maps.{objects}

@@ -13,11 +13,11 @@ use Rattle.config_types.specs.declared.config.Config.{Config}
 use Rattle.config_types.specs.declared.config.Network.{Network}
 use Rattle.config_types.specs.declared.config.Rule.{Rule}
 use Rattle.schedule_script.specs.Ties.{AreNear, HasUse, Ties}
-use Rattle.transform_forwarding_laws.specs.TransformModel.IsUse.{IsUse}
-use Rattle.transform_forwarding_laws.specs.TransformModel.Uses.{ConfiguredUse}
-use Rattle.transform_forwarding_laws.proofs.Blocks.{Holds, host_is}
-use Rattle.transform_forwarding_laws.proofs.TransformModel.InUse.{among_all, numbered}
-use Rattle.transform_forwarding_laws.proofs.Valid.{holds_port_address}
+use Rattle.transform_model.specs.IsUse.{IsUse}
+use Rattle.transform_model.specs.Uses.{ConfiguredUse}
+use Rattle.transform_model.proofs.Blocks.{Holds, host_is}
+use Rattle.transform_model.proofs.InUse.{among_all, numbered}
+use Rattle.transform_model.proofs.Valid.{holds_port_address}
 use Rattle.machine_laws.specs.Relating.{AreRelatedIn, StandsIn}
 use Rattle.machine_laws.specs.Stood.{ComeFrom, InSome}
 use Rattle.machine_laws.proofs.Found.{same_port}

@@ -16,8 +16,8 @@ use Rattle.ov_types.specs.declared.objects.LowValue.TheVariants as low
 use Rattle.ov_types.specs.declared.objects.LowValue.{LowValue}
 use Rattle.route_targets.specs.Numbers.{circuit_instance_of, circuit_label_of, hop_instance_of, left_circuit_of, right_circuit_of, target_of}
 use Rattle.config_types.specs.declared.config.Config.{Config}
-use Rattle.transform_forwarding_laws.specs.AclCompile.Oriented.{ascending}
-use Rattle.transform_forwarding_laws.proofs.AclCompile.Orders.{ascending_permutes}
+use Rattle.transform_model.specs.AclCompile.Oriented.{ascending}
+use Rattle.transform_model.proofs.AclCompile.Orders.{ascending_permutes}
 use Rattle.node_laws.specs.NodeModel.Keys.{Key, Low, Publish, Row, Subscribe, Vpn}
 use Rattle.node_laws.specs.NodeModel.Maps.{Map, objects}
 use Rattle.node_laws.specs.NodeModel.Members.{Member}

@@ -4,9 +4,9 @@ use Rattle.std.specs.List.{filter_map}
 use Rattle.std.proofs.Common.{◌∙◌, ap, inl, inr}
 use Rattle.route_targets.specs.Forwarding.{Forwarder}
 use Rattle.config_types.specs.declared.topology.Node.{Node}
-use Rattle.transform_forwarding_laws.specs.TransformModel.Compiled as compiled_rows
-use Rattle.transform_forwarding_laws.specs.TransformModel.Compiled.{slice_of}
-use Rattle.transform_forwarding_laws.specs.TransformModel.Objects.{LowObject, low_objects}
+use Rattle.transform_model.specs.Compiled as compiled_rows
+use Rattle.transform_model.specs.Compiled.{slice_of}
+use Rattle.transform_model.specs.Objects.{LowObject, low_objects}
 use Rattle.node_laws.specs.NodeModel.Agent as agent
 use Rattle.node_laws.specs.NodeModel.Agent.{slice_in_use}
 use Rattle.node_laws.proofs.NodeModel.Members.{member_of}

@@ -38,10 +38,10 @@ use Rattle.reach_plain.specs.PolicyRules.Taking.{IsDeciding}
 use Rattle.reach_plain.proofs.PolicyRules.Taking.{deciding_iff}
 use Rattle.acl_compile.specs.Laws.{entry_by}
 use Rattle.acl_compile.proofs.Deciding.{first_entry}
-use Rattle.transform_forwarding_laws.specs.AclCompile.Oriented.{acl_rules, acl_value, ascending, does}
-use Rattle.transform_forwarding_laws.specs.TransformModel.IsObject.{IsObject, of_left_circuit, of_network, of_networks, of_port, of_right_circuit, of_use}
-use Rattle.transform_forwarding_laws.specs.TransformModel.Objects.{LowObject, low_objects}
-use Rattle.transform_forwarding_laws.proofs.TransformModel.Circuits.{left_instance, right_instance}
+use Rattle.transform_model.specs.AclCompile.Oriented.{acl_rules, acl_value, ascending, does}
+use Rattle.transform_model.specs.IsObject.{IsObject, of_left_circuit, of_network, of_networks, of_port, of_right_circuit, of_use}
+use Rattle.transform_model.specs.Objects.{LowObject, low_objects}
+use Rattle.transform_model.proofs.Circuits.{left_instance, right_instance}
 use Rattle.node_laws.specs.NodeModel.Agent.{acl_entry, needed_by, needed_for}
 use Rattle.node_laws.specs.NodeModel.Maps.{Map, as_object, object, objects}
 use Rattle.node_laws.specs.NodeModel.Members.{Member}

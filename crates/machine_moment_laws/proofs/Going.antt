@@ -18,7 +18,7 @@ use Rattle.ov_types.specs.declared.rows.Attached.TheVariants.{Circuit, Port}
 use Rattle.route_targets.specs.Numbers.{circuit_instance_of, circuit_label_of, other_side_of, port_label_of}
 use Rattle.config_types.specs.declared.topology.Node.{Node}
 use Rattle.schedule_script.specs.ConfigCheck.Checked.{Checked}
-use Rattle.transform_forwarding_laws.proofs.Blocks.{host_holds}
+use Rattle.transform_model.proofs.Blocks.{host_holds}
 use Rattle.node_laws.specs.NodeModel.Agent as agent
 use Rattle.node_laws.specs.NodeModel.Agent.{needed_by, needed_for}
 use Rattle.node_laws.specs.NodeModel.Maps.{Map, object, objects}

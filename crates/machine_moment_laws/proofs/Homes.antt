@@ -18,10 +18,10 @@ use Rattle.ov_types.specs.declared.prefix.Addr.{Addr}
 use Rattle.route_targets.specs.Numbers.{circuit_instance_of, hop_instance_of, left_circuit_of, right_circuit_of}
 use Rattle.schedule_script.specs.ConfigCheck.Checked.{Checked}
 use Rattle.schedule_script.proofs.ConfigCheck.Validity.{valid_iff}
-use Rattle.transform_forwarding_laws.specs.TransformModel.IsObject.{IsObject, of_left_circuit, of_network, of_networks, of_port, of_right_circuit, of_use}
-use Rattle.transform_forwarding_laws.specs.TransformModel.Objects.{LowObject, low_objects}
-use Rattle.transform_forwarding_laws.proofs.TransformModel.LowKeys.{low_is}
-use Rattle.transform_forwarding_laws.proofs.TransformModel.Prefixes.{network_number}
+use Rattle.transform_model.specs.IsObject.{IsObject, of_left_circuit, of_network, of_networks, of_port, of_right_circuit, of_use}
+use Rattle.transform_model.specs.Objects.{LowObject, low_objects}
+use Rattle.transform_model.proofs.LowKeys.{low_is}
+use Rattle.transform_model.proofs.Prefixes.{network_number}
 use Rattle.node_laws.specs.NodeModel.Keys.{Key, Low}
 use Rattle.node_laws.specs.NodeModel.Maps.{Map, as_object, object, objects}
 use Rattle.node_laws.specs.NodeModel.Members.{Member}

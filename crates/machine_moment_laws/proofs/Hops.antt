@@ -11,12 +11,12 @@ use Rattle.route_targets.specs.Numbers.{circuit_instance_of, circuit_label_of, h
 use Rattle.config_types.specs.declared.config.Config.{Config}
 use Rattle.config_types.specs.declared.config.Service.{Service}
 use Rattle.schedule_script.specs.Ties.{Ties}
-use Rattle.transform_forwarding_laws.specs.TransformModel.IsUse.{IsUse}
-use Rattle.transform_forwarding_laws.specs.TransformModel.Uses.{ConfiguredUse}
+use Rattle.transform_model.specs.IsUse.{IsUse}
+use Rattle.transform_model.specs.Uses.{ConfiguredUse}
 use Rattle.machine_laws.specs.Compiled.{circuit_prefix}
-use Rattle.transform_forwarding_laws.proofs.TransformModel.InUse.{few_services}
-use Rattle.transform_forwarding_laws.proofs.TransformModel.Lists.{place_within}
-use Rattle.transform_forwarding_laws.proofs.TransformModel.Prefixes.{same_hop}
+use Rattle.transform_model.proofs.InUse.{few_services}
+use Rattle.transform_model.proofs.Lists.{place_within}
+use Rattle.transform_model.proofs.Prefixes.{same_hop}
 use Rattle.node_laws.specs.NodeModel.Uses.{is_hop}
 use Rattle.node_laws.proofs.NodeModel.Objects.{is_hop-hop}
 use Rattle.machine_laws.proofs.Circuits.{next_hop, other_of_left, other_of_right}

@@ -12,7 +12,7 @@ use Rattle.ov_types.proofs.FirstLemmas.{any_of}
 use Rattle.schedule_script.specs.ConfigCheck.Checked.{Checked}
 use Rattle.schedule_script.specs.ConfigCheck.Sentences.{IsValid}
 use Rattle.schedule_script.proofs.ConfigCheck.Validity.{valid_iff}
-use Rattle.transform_forwarding_laws.proofs.Blocks.{host_is, one_subnet}
+use Rattle.transform_model.proofs.Blocks.{host_is, one_subnet}
 use Rattle.node_laws.specs.NodeModel.Maps.{Map}
 use Rattle.node_laws.specs.NodeModel.Members.{Member}
 use Rattle.node_laws.specs.NodeModel.Reaching.{Side, hop_at, sides, subnets}

@@ -26,8 +26,8 @@ use Rattle.config_types.specs.declared.topology.Node.{Node}
 use Rattle.schedule_script.specs.ConfigCheck.Checked.{Checked}
 use Rattle.schedule_script.specs.ConfigCheck.Finding.{port_numbered}
 use Rattle.reach_plain.proofs.ConfigCheck.Finders.{finds_port_numbered}
-use Rattle.transform_forwarding_laws.specs.TransformModel.Objects.{low_objects}
-use Rattle.transform_forwarding_laws.proofs.Valid.{one_node}
+use Rattle.transform_model.specs.Objects.{low_objects}
+use Rattle.transform_model.proofs.Valid.{one_node}
 use Rattle.node_laws.specs.NodeModel.Members.{Member}
 use Rattle.node_laws.proofs.NodeModel.Members.{contains_of, member_of}
 use Rattle.machine_model.specs.Events.{after, forwarders}

@@ -10,7 +10,7 @@ use Rattle.ov_types.specs.declared.numbers.InstanceId.{InstanceId}
 use Rattle.ov_types.specs.declared.rows.AgentRows.{AgentRows}
 use Rattle.ov_types.specs.declared.rows.Entry.{Entry as RouteEntry}
 use Rattle.route_targets.specs.Forwarding.{looked_up, route_in}
-use Rattle.transform_forwarding_laws.proofs.TransformModel.Lists.{mapped_some}
+use Rattle.transform_model.proofs.Lists.{mapped_some}
 use Rattle.node_laws.specs.NodeModel.Members.{Member}
 use Rattle.node_laws.proofs.NodeModel.Members.{from_filter_map, none_some}
 use Rattle.machine_laws.proofs.Found.{Routed}

@@ -8,10 +8,10 @@ use Rattle.config_types.specs.declared.config.Config.{Config}
 use Rattle.config_types.specs.declared.config.Network.{Network}
 use Rattle.schedule_script.specs.ConfigCheck.Sentences.{IsValid}
 use Rattle.schedule_script.specs.Ties.{IsTiedBy, Ties}
-use Rattle.transform_forwarding_laws.specs.TransformModel.IsObject.{IsHop, IsObject, of_left_circuit, of_network, of_networks, of_port, of_right_circuit, of_use}
-use Rattle.transform_forwarding_laws.specs.TransformModel.Objects.{LowObject, low_objects}
-use Rattle.transform_forwarding_laws.proofs.TransformModel.LowKeys.{low_is}
-use Rattle.transform_forwarding_laws.proofs.TransformModel.Prefixes.{network_number}
+use Rattle.transform_model.specs.IsObject.{IsHop, IsObject, of_left_circuit, of_network, of_networks, of_port, of_right_circuit, of_use}
+use Rattle.transform_model.specs.Objects.{LowObject, low_objects}
+use Rattle.transform_model.proofs.LowKeys.{low_is}
+use Rattle.transform_model.proofs.Prefixes.{network_number}
 use Rattle.node_laws.specs.NodeModel.Keys.{Key}
 use Rattle.node_laws.specs.NodeModel.Members.{Member}
 use Rattle.node_laws.specs.NodeModel.Uses.{is_hop}

@@ -23,8 +23,8 @@ use Rattle.config_types.specs.declared.topology.Node.{Node}
 use Rattle.schedule_script.specs.ConfigCheck.Checked.{Checked}
 use Rattle.schedule_script.specs.ConfigCheck.Sentences.{IsValid}
 use Rattle.schedule_script.proofs.ConfigCheck.Validity.{valid_iff}
-use Rattle.transform_forwarding_laws.specs.TransformModel.IsObject.{IsObject}
-use Rattle.transform_forwarding_laws.specs.TransformModel.Objects.{LowObject}
+use Rattle.transform_model.specs.IsObject.{IsObject}
+use Rattle.transform_model.specs.Objects.{LowObject}
 use Rattle.node_laws.specs.NodeModel.Agent.{entered_by, needed_for}
 use Rattle.node_laws.specs.NodeModel.Maps.{Map, as_object, object}
 use Rattle.node_laws.specs.NodeModel.Members.{Member}

@@ -7,7 +7,7 @@ use Rattle.std.proofs.Common.{arith, inl, inr, refl, subst, sym, ◌∙◌}
 use Rattle.ov_types.specs.declared.objects.LowKey.{LowKey}
 use Rattle.ov_types.specs.declared.objects.LowValue.{LowValue}
 use Rattle.schedule_script.specs.ConfigCheck.Checked.{Checked}
-use Rattle.transform_forwarding_laws.specs.TransformModel.Objects.{low_objects}
+use Rattle.transform_model.specs.Objects.{low_objects}
 use Rattle.node_laws.specs.NodeModel.Agent.{needed_by, publication, slice_in_use, told_of}
 use Rattle.node_laws.specs.NodeModel.Keys.{Key, key_cmp, Low}
 use Rattle.node_laws.specs.NodeModel.Maps.{Map, objects}

@@ -18,7 +18,7 @@ use Rattle.config_types.specs.declared.topology.Node.{Node}
 use Rattle.schedule_script.specs.ConfigCheck.Checked.{Checked}
 use Rattle.schedule_script.specs.ConfigCheck.Rules.{controller_names}
 use Rattle.schedule_script.proofs.ConfigCheck.Validity.{valid_iff}
-use Rattle.transform_forwarding_laws.proofs.Valid.{one_node_at}
+use Rattle.transform_model.proofs.Valid.{one_node_at}
 use Rattle.node_laws.specs.NodeModel.Keys.{Key, Low, Publish, Vpn}
 use Rattle.node_laws.specs.NodeModel.Maps.{Map, object}
 use Rattle.node_laws.specs.NodeModel.Members.{Member}

@@ -24,9 +24,9 @@ use Rattle.config_types.specs.declared.config.Config.{Config}
 use Rattle.config_types.specs.declared.config.Service.{Service}
 use Rattle.reach_plain.proofs.PolicyRules.Taking.{first_answer}
 use Rattle.schedule_script.specs.Ties.{IsTiedBy, Ties}
-use Rattle.transform_forwarding_laws.specs.TransformModel.Uses.{ConfiguredUse}
-use Rattle.transform_forwarding_laws.proofs.TransformModel.InUse.{few_services}
-use Rattle.transform_forwarding_laws.proofs.TransformModel.Lists.{mapped_some}
+use Rattle.transform_model.specs.Uses.{ConfiguredUse}
+use Rattle.transform_model.proofs.InUse.{few_services}
+use Rattle.transform_model.proofs.Lists.{mapped_some}
 use Rattle.node_laws.specs.NodeModel.Members.{Member}
 use Rattle.node_laws.specs.NodeModel.Uses.{is_hop}
 use Rattle.node_laws.proofs.NodeModel.Members.{member_of, none_some}

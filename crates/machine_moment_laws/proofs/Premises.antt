@@ -19,10 +19,10 @@ use Rattle.reach_plain.proofs.Found.{target_is}
 use Rattle.schedule_script.specs.ConfigCheck.Checked.{Checked}
 use Rattle.schedule_script.specs.ConfigCheck.Sentences.{IsValid}
 use Rattle.schedule_script.proofs.ConfigCheck.Validity.{valid_iff}
-use Rattle.transform_forwarding_laws.specs.TransformModel.IsUse.{IsUse}
-use Rattle.transform_forwarding_laws.specs.TransformModel.Uses.{ConfiguredUse}
-use Rattle.transform_forwarding_laws.proofs.TransformModel.InUse.{one_use}
-use Rattle.transform_forwarding_laws.proofs.TransformModel.Objects.{one_named, one_numbered}
+use Rattle.transform_model.specs.IsUse.{IsUse}
+use Rattle.transform_model.specs.Uses.{ConfiguredUse}
+use Rattle.transform_model.proofs.InUse.{one_use}
+use Rattle.transform_model.proofs.Objects.{one_named, one_numbered}
 use Rattle.node_laws.specs.NodeModel.Members.{Member}
 use Rattle.machine_model.specs.Setup.{opening}
 use Rattle.machine_laws.specs.Headline.{IsWritten}

@@ -40,17 +40,17 @@ use Rattle.reach_plain.proofs.ConfigCheck.Validity.{valid_iff}
 use Rattle.reach_plain.proofs.ConfigCheck.Finders.{finds_port_numbered}
 use Rattle.reach_plain.proofs.Found.{own_exists}
 use Rattle.reach_plain.proofs.PolicyRules.Lists.{is_mapped}
-use Rattle.transform_forwarding_laws.specs.ReachPlain.Reachability.{reachability}
-use Rattle.transform_forwarding_laws.specs.TransformModel.Compiled as compiled_rows
-use Rattle.transform_forwarding_laws.specs.TransformModel.IsObject.IsObject.{of_port}
-use Rattle.transform_forwarding_laws.specs.TransformModel.IsRow.{IsPort}
-use Rattle.transform_forwarding_laws.specs.TransformModel.Objects.{LowObject, attached_port, low_objects}
-use Rattle.transform_forwarding_laws.proofs.Agents.{agents_of, forwarder, label_leads, under_label}
-use Rattle.transform_forwarding_laws.proofs.Held.{is_object, one_object}
-use Rattle.transform_forwarding_laws.proofs.Law.{forwarding_is_reachability}
-use Rattle.transform_forwarding_laws.proofs.Lists.{no_answer}
-use Rattle.transform_forwarding_laws.proofs.Sources.{starts, starts_nowhere}
-use Rattle.transform_forwarding_laws.proofs.Valid.{node_of_port, one_node_at}
+use Rattle.transform_model.specs.ReachPlain.Reachability.{reachability}
+use Rattle.transform_model.specs.Compiled as compiled_rows
+use Rattle.transform_model.specs.IsObject.IsObject.{of_port}
+use Rattle.transform_model.specs.IsRow.{IsPort}
+use Rattle.transform_model.specs.Objects.{LowObject, attached_port, low_objects}
+use Rattle.transform_model.proofs.Agents.{agents_of, forwarder, label_leads, under_label}
+use Rattle.transform_model.proofs.Held.{is_object, one_object}
+use Rattle.transform_model.proofs.Law.{forwarding_is_reachability}
+use Rattle.transform_model.proofs.OneFound.{no_answer}
+use Rattle.transform_model.proofs.Sources.{starts, starts_nowhere}
+use Rattle.transform_model.proofs.Valid.{node_of_port, one_node_at}
 use Rattle.node_laws.specs.NodeModel.Wants.{is_at}
 use Rattle.machine_moment_laws.specs.Revocation.{IsRefusal}
 

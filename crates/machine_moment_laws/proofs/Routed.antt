@@ -14,8 +14,8 @@ use Rattle.ov_types.specs.declared.rows.Entry.{Entry as RouteEntry}
 use Rattle.ov_types.specs.declared.rows.TableRow.{TableRow}
 use Rattle.route_targets.specs.Numbers.{distinguisher_of, target_of}
 use Rattle.schedule_script.specs.ConfigCheck.Checked.{Checked}
-use Rattle.transform_forwarding_laws.specs.TransformModel.Compiled.{route_of}
-use Rattle.transform_forwarding_laws.specs.TransformModel.Tables.{Row}
+use Rattle.transform_model.specs.Compiled.{route_of}
+use Rattle.transform_model.specs.Tables.{Row}
 use Rattle.node_laws.specs.NodeModel.Agent.{acl_entry, attached, needed_by}
 use Rattle.node_laws.specs.NodeModel.Maps.{Map}
 use Rattle.node_laws.specs.NodeModel.Members.{Member}

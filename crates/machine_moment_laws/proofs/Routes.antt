@@ -14,7 +14,7 @@ use Rattle.ov_types.specs.declared.rows.Entry.{Entry as RouteEntry}
 use Rattle.ov_types.specs.declared.rows.TableRow.{TableRow}
 use Rattle.config_types.specs.declared.topology.Node.{Node}
 use Rattle.schedule_script.specs.ConfigCheck.Checked.{Checked}
-use Rattle.transform_forwarding_laws.specs.TransformModel.Compiled.{route_of}
+use Rattle.transform_model.specs.Compiled.{route_of}
 use Rattle.node_laws.specs.NodeModel.Agent as agent
 use Rattle.node_laws.specs.NodeModel.Agent.{as_hop, first_some, needed_by, slice_in_use}
 use Rattle.node_laws.specs.NodeModel.Keys.{Row}

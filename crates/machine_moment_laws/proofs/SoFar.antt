@@ -21,9 +21,9 @@ use Rattle.config_types.specs.declared.topology.Topology.{Topology}
 use Rattle.reach_plain.specs.PolicyRules.Standing.{AreRelated}
 use Rattle.schedule_script.specs.ConfigCheck.Sentences.{IsValid}
 use Rattle.schedule_script.specs.Ties.{IsTiedBy, Ties}
-use Rattle.transform_forwarding_laws.specs.AclCompile.Oriented.{acl_rules, ascending}
-use Rattle.transform_forwarding_laws.specs.TransformModel.IsUse.{IsUse}
-use Rattle.transform_forwarding_laws.specs.TransformModel.Uses.{ConfiguredUse}
+use Rattle.transform_model.specs.AclCompile.Oriented.{acl_rules, ascending}
+use Rattle.transform_model.specs.IsUse.{IsUse}
+use Rattle.transform_model.specs.Uses.{ConfiguredUse}
 use Rattle.node_laws.specs.NodeModel.Keys.{Key, Low, Publish, Row, Vpn}
 use Rattle.node_laws.specs.NodeModel.Maps.{Map}
 use Rattle.node_laws.specs.NodeModel.Members.{Member}

@@ -32,7 +32,7 @@ use Rattle.machine_laws.specs.Compiled.{Attachment, as_attachment, attachments}
 use Rattle.machine_laws.specs.Headline.{IsWritten}
 use Rattle.machine_laws.specs.Setups.{IsSoundSetup}
 use Rattle.machine_laws.proofs.Written.{sound_setup}
-use Rattle.transform_forwarding_laws.proofs.Valid.{one_node_at}
+use Rattle.transform_model.proofs.Valid.{one_node_at}
 use Rattle.machine_moment_laws.specs.Common.{ChangesHands, common, common_object, is_object, standing, stands_at}
 use Rattle.machine_moment_laws.proofs.Above.{attachment_above}
 use Rattle.machine_moment_laws.proofs.Here.{stands_among, stands_there}

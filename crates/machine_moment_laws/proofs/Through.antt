@@ -22,7 +22,7 @@ use Rattle.config_types.specs.declared.config.Network.{Network}
 use Rattle.config_types.specs.declared.topology.Node.{Node}
 use Rattle.schedule_script.specs.ConfigCheck.Checked.{Checked}
 use Rattle.reach_plain.specs.ChainExpand.Expansion.{expansion}
-use Rattle.transform_forwarding_laws.specs.AclCompile.Oriented.{ascending}
+use Rattle.transform_model.specs.AclCompile.Oriented.{ascending}
 use Rattle.node_laws.specs.NodeModel.Agent.{needed_by}
 use Rattle.node_laws.specs.NodeModel.Maps.{Map, object, objects}
 use Rattle.node_laws.specs.NodeModel.Members.{Member}

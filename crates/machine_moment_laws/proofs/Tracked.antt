@@ -35,12 +35,12 @@ use Rattle.reach_plain.specs.PolicyRules.NumberedRule.{NumberedRule}
 use Rattle.reach_plain.specs.PolicyRules.Related.{all_rules, fits, rules_between}
 use Rattle.reach_plain.specs.PolicyRules.Standing.{AreRelated, IsBetween, IsEnd, LetsThrough, PassesBetween}
 use Rattle.reach_plain.proofs.PolicyRules.Standing.{between_iff, fits_iff}
-use Rattle.transform_forwarding_laws.specs.AclCompile.Oriented.{acl_rules, acl_value, ascending, backwards, does, entries_of, forward_entry, forwards, mirrored_entry, oriented}
-use Rattle.transform_forwarding_laws.specs.TransformModel.IsObject.{IsHop, of_left_circuit, of_networks, of_port, of_right_circuit, of_use}
-use Rattle.transform_forwarding_laws.specs.TransformModel.IsRow.{IsCircuitAt, IsPort}
-use Rattle.transform_forwarding_laws.specs.TransformModel.IsUse.{IsLeftCircuit, IsRightCircuit, IsUse}
-use Rattle.transform_forwarding_laws.specs.TransformModel.Objects.{LowObject, attached_circuit, attached_port}
-use Rattle.transform_forwarding_laws.specs.TransformModel.Uses.{Circuit, ConfiguredUse}
+use Rattle.transform_model.specs.AclCompile.Oriented.{acl_rules, acl_value, ascending, backwards, does, entries_of, forward_entry, forwards, mirrored_entry, oriented}
+use Rattle.transform_model.specs.IsObject.{IsHop, of_left_circuit, of_networks, of_port, of_right_circuit, of_use}
+use Rattle.transform_model.specs.IsRow.{IsCircuitAt, IsPort}
+use Rattle.transform_model.specs.IsUse.{IsLeftCircuit, IsRightCircuit, IsUse}
+use Rattle.transform_model.specs.Objects.{LowObject, attached_circuit, attached_port}
+use Rattle.transform_model.specs.Uses.{Circuit, ConfiguredUse}
 use Rattle.node_laws.specs.NodeModel.Agent.{entered_by}
 use Rattle.node_laws.specs.NodeModel.Maps.{object}
 use Rattle.node_laws.specs.NodeModel.Members.{Member}

@@ -19,8 +19,8 @@ use Rattle.route_targets.specs.Numbers.{circuit_label_of, hop_instance_of, left_
 use Rattle.config_types.specs.declared.config.Config.{Config}
 use Rattle.config_types.specs.declared.config.Network.{Network}
 use Rattle.schedule_script.specs.Ties.{AreNear, Ties}
-use Rattle.transform_forwarding_laws.proofs.Blocks.{Holds, not_circuit}
-use Rattle.transform_forwarding_laws.proofs.TransformModel.Prefixes.{port_number}
+use Rattle.transform_model.proofs.Blocks.{Holds, not_circuit}
+use Rattle.transform_model.proofs.Prefixes.{port_number}
 use Rattle.node_laws.specs.NodeModel.Members.{Member}
 use Rattle.node_laws.specs.NodeModel.Uses.{is_hop}
 use Rattle.node_laws.proofs.NodeModel.Objects.{is_hop-hop}

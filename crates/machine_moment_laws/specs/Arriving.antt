@@ -25,7 +25,7 @@ use Rattle.route_targets.specs.Forwarding.{Forwarder, forwarding, source_at, wal
 use Rattle.route_targets.specs.Numbers.{circuit_instance_of, other_side_of, port_label_of}
 use Rattle.config_types.specs.declared.topology.Node.{Node}
 use Rattle.schedule_script.specs.ConfigCheck.Checked.{Checked}
-use Rattle.transform_forwarding_laws.specs.TransformModel.Objects.{low_objects}
+use Rattle.transform_model.specs.Objects.{low_objects}
 use Rattle.node_laws.specs.NodeModel.Members.{Member}
 use Rattle.machine_model.specs.Events.{forwarders}
 use Rattle.machine_model.specs.Network.{MachineState}

@@ -24,8 +24,8 @@ use Rattle.route_targets.specs.Numbers.{circuit_instance_of, circuit_label_of, l
 use Rattle.config_types.specs.declared.topology.Node.{Node}
 use Rattle.schedule_script.specs.ConfigCheck.Checked.{Checked}
 use Rattle.schedule_script.specs.ConfigCheck.Finding.{node_named}
-use Rattle.transform_forwarding_laws.specs.TransformModel.Compiled.{route_of}
-use Rattle.transform_forwarding_laws.specs.TransformModel.Objects.{low_objects}
+use Rattle.transform_model.specs.Compiled.{route_of}
+use Rattle.transform_model.specs.Objects.{low_objects}
 use Rattle.node_laws.specs.NodeModel.Agent as agent
 use Rattle.node_laws.specs.NodeModel.Agent.{entered_by}
 use Rattle.node_laws.specs.NodeModel.Keys.{Key, Low}

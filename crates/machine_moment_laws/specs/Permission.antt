@@ -17,8 +17,8 @@ use Rattle.config_types.specs.declared.config.Config.{Config}
 use Rattle.config_types.specs.declared.config.Network.{Network}
 use Rattle.config_types.specs.declared.config.Port.{Port}
 use Rattle.reach_plain.specs.Outcomes.{Goes, IsLetThrough}
-use Rattle.transform_forwarding_laws.specs.TransformModel.IsUse.{IsUse}
-use Rattle.transform_forwarding_laws.specs.TransformModel.Uses.{ConfiguredUse}
+use Rattle.transform_model.specs.IsUse.{IsUse}
+use Rattle.transform_model.specs.Uses.{ConfiguredUse}
 use Rattle.node_laws.specs.NodeModel.Members.{Member}
 use Rattle.machine_model.specs.Events.{forwarders}
 use Rattle.machine_model.specs.Network.{MachineState}

@@ -13,7 +13,7 @@ use Rattle.ov_types.specs.declared.packet.Packet.{Packet}
 use Rattle.route_targets.specs.Forwarding.{forwarding, walk}
 use Rattle.config_types.specs.declared.topology.Node.{Node}
 use Rattle.schedule_script.specs.ConfigCheck.Checked.{Checked}
-use Rattle.transform_forwarding_laws.specs.TransformModel.Objects.{low_objects}
+use Rattle.transform_model.specs.Objects.{low_objects}
 use Rattle.node_laws.specs.NodeModel.Members.{Member}
 use Rattle.node_laws.specs.NodeModel.Reaching.{Side, sides}
 use Rattle.machine_model.specs.Events.{MachineEvent, Round, Settle, after, forwarders, next}

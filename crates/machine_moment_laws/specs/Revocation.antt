@@ -10,7 +10,7 @@ use Rattle.ov_types.specs.declared.packet.Packet.{Packet}
 use Rattle.ov_types.specs.declared.packet.Why.{Why}
 use Rattle.ov_types.specs.declared.packet.Why.TheVariants as Reason
 use Rattle.route_targets.specs.Forwarding.{forwarding}
-use Rattle.transform_forwarding_laws.specs.ReachPlain.Reachability.{reachability}
+use Rattle.transform_model.specs.ReachPlain.Reachability.{reachability}
 use Rattle.config_types.specs.declared.config.Config.{Config}
 use Rattle.config_types.specs.declared.topology.Node.{Node}
 use Rattle.node_laws.specs.NodeModel.Members.{Member}

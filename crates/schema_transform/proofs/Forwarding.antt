@@ -7,8 +7,8 @@ use Rattle.route_targets.specs.Forwarding.{forwarding}
 use Rattle.config_types.specs.Form.{has_config_form}
 use Rattle.config_check.specs.Checked.{Checked}
 use Rattle.config_check.specs.Rules.{first_broken}
-use Rattle.transform_forwarding_laws.specs.ReachPlain.Reachability.{reachability}
-use Rattle.transform_forwarding_laws.proofs.Law.{forwarding_is_reachability, labels_lead_on, none_expires}
+use Rattle.transform_model.specs.ReachPlain.Reachability.{reachability}
+use Rattle.transform_model.proofs.Law.{forwarding_is_reachability, labels_lead_on, none_expires}
 use Rattle.transform_model.specs.Compiled.{compiled_tables, forwarders}
 use Rattle.transform_model.specs.declared.tables.Compiled.{Compiled}
 

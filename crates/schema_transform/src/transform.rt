@@ -8,7 +8,7 @@ ghost use Rattle.ov_types.specs.declared.packet.Why.TheVariants.{NoLabel, TtlExp
 ghost use Rattle.route_targets.specs.Forwarding.{forwarding};
 ghost use Rattle.config_types.specs.Form.{has_config_form};
 ghost use Rattle.config_check.specs.Rules.{first_broken};
-ghost use Rattle.transform_forwarding_laws.specs.ReachPlain.Reachability.{reachability};
+ghost use Rattle.transform_model.specs.ReachPlain.Reachability.{reachability};
 ghost use Rattle.transform_model.specs.Compiled.{agent_rows, compiled_tables, forwarders};
 ghost use Rattle.transform_model.specs.Objects.{low_objects};
 ghost use Rattle.transform_model.specs.Tables.{control_rows, instances};

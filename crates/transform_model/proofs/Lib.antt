@@ -14,5 +14,16 @@ pub mod Needed
 pub mod Labels
 pub mod AgentRows
 pub mod Lemmas
+pub mod OneFound
+pub mod Held
+pub mod Valid
+pub mod Agents
+pub mod Blocks
+pub mod Ways
+pub mod Hops
+pub mod Chains
+pub mod Verdicts
+pub mod Sources
+pub mod Law
 pub mod AclCompile
 pub mod NodeModel

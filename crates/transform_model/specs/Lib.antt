@@ -10,3 +10,4 @@ pub mod IsNeeded
 pub mod Leads
 pub mod AclCompile
 pub mod NodeModel
+pub mod ReachPlain

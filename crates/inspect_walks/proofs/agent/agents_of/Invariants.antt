@@ -1,5 +1,5 @@
 use Rattle.std.proofs.Common.{◌≡◌, ◌++◌, drop, map}
-use Rattle.transform_forwarding_laws.proofs.Agents.{agents_of, forwarder}
+use Rattle.transform_model.proofs.Agents.{agents_of, forwarder}
 use Rattle.inspect_walks.proofs.agent.agents_of.Given as goal
 
 abbrev pub invariant-loop-place : goal.invariant-loop-place

@@ -1,7 +1,5 @@
 //! Forwarding over compiled rows is reachability: what the rows of all agents do with a packet is what policies say
 //! becomes of it.
-#![tactic(auto)]
-
 ghost use Rattle.std.specs.Prelude.{◌≡◌, ◌≢◌, IsTrue, None};
 ghost use Rattle.ov_types.specs.declared.packet.Outcome.TheVariants.{Dropped};
 ghost use Rattle.ov_types.specs.declared.packet.Packet.{Packet};

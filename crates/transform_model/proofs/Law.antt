@@ -48,11 +48,11 @@ use Rattle.reach_plain.specs.ConfigCheck.Rules.{first_broken}
 use Rattle.reach_plain.specs.ConfigCheck.Sentences.{NamesEnds, IsValid}
 use Rattle.reach_plain.proofs.ConfigCheck.Finders.{finds_network_named, finds_port_numbered}
 use Rattle.reach_plain.proofs.ConfigCheck.Validity.{valid_iff}
-use Rattle.transform_model.specs.AclCompile.Oriented.{acl_rules, acl_value, does}
-use Rattle.transform_model.specs.AclCompile.Laws.{entry_by}
-use Rattle.transform_model.proofs.AclCompile.Deciding.{first_entry}
-use Rattle.transform_model.specs.NodeModel.Agent.{entered_by}
-use Rattle.transform_model.specs.NodeModel.Wants.{port_at as network_at}
+use Rattle.acl_compile.specs.Oriented.{acl_rules, acl_value, does}
+use Rattle.acl_compile.specs.Laws.{entry_by}
+use Rattle.acl_compile.proofs.Deciding.{first_entry}
+use Rattle.node_model.specs.Agent.{entered_by}
+use Rattle.node_model.specs.Wants.{port_at as network_at}
 use Rattle.reach_plain.specs.Outcomes.{IsTowards}
 use Rattle.reach_plain.specs.Reachability.{network_towards, services_through, arrival_at, outcome_of, outcome_by, outcome_between, outcome_towards, outcome_from, outcome_at, reachability}
 use Rattle.reach_plain.proofs.Becoming.{outcome_iff, apart}
@@ -68,16 +68,16 @@ use Rattle.transform_model.specs.Uses.{ConfiguredUse}
 use Rattle.transform_model.proofs.Lists.{gives}
 use Rattle.transform_model.proofs.InUse.{few_services}
 use Rattle.transform_model.proofs.Objects.{one_named, one_numbered}
-use Rattle.transform_forwarding_laws.proofs.Agents.{forwarder, agents_of, Needs, needed_at}
-use Rattle.transform_forwarding_laws.proofs.Held.{is_object}
-use Rattle.transform_forwarding_laws.proofs.Blocks.{Holds, host_is}
-use Rattle.transform_forwarding_laws.proofs.Chains.{right_way, left_way}
-use Rattle.transform_forwarding_laws.proofs.Hops.{not_network}
-use Rattle.transform_forwarding_laws.proofs.Lists.{in_any}
-use Rattle.transform_forwarding_laws.proofs.Sources.{starts, starts_nowhere}
-use Rattle.transform_forwarding_laws.proofs.Valid.{node_of_port, holds_port_address}
-use Rattle.transform_forwarding_laws.proofs.Verdicts.{access_to, towards_nothing, towards_network}
-use Rattle.transform_forwarding_laws.proofs.Ways.{IsHost, Arrives, Way, walk_way}
+use Rattle.transform_model.proofs.Agents.{forwarder, agents_of, Needs, needed_at}
+use Rattle.transform_model.proofs.Held.{is_object}
+use Rattle.transform_model.proofs.Blocks.{Holds, host_is}
+use Rattle.transform_model.proofs.Chains.{right_way, left_way}
+use Rattle.transform_model.proofs.Hops.{not_network}
+use Rattle.transform_model.proofs.OneFound.{in_any}
+use Rattle.transform_model.proofs.Sources.{starts, starts_nowhere}
+use Rattle.transform_model.proofs.Valid.{node_of_port, holds_port_address}
+use Rattle.transform_model.proofs.Verdicts.{access_to, towards_nothing, towards_network}
+use Rattle.transform_model.proofs.Ways.{IsHost, Arrives, Way, walk_way}
 
 named_end : (e : End) (n : Network) → e ≢ Anyone → IsEnd e n → e ≡ Named n.name
 named_end Anyone n h is = absurd (h refl)

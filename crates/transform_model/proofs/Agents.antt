@@ -21,18 +21,18 @@ use Rattle.reach_plain.specs.ConfigTypes.Config.{Config}
 use Rattle.reach_plain.specs.ConfigTypes.Node.{Node}
 use Rattle.reach_plain.specs.ConfigTypes.Topology.{Topology}
 use Rattle.reach_plain.specs.ConfigCheck.Sentences.{IsValid}
-use Rattle.transform_model.specs.NodeModel.Agent.{attached as listed, needed_by, needed_for}
-use Rattle.transform_model.specs.NodeModel.Wants.{is_at}
+use Rattle.node_model.specs.Agent.{attached as listed, needed_by, needed_for}
+use Rattle.node_model.specs.Wants.{is_at}
 use Rattle.transform_model.specs.Compiled.{agent_rows, concerns, slice_of, route_of}
 use Rattle.transform_model.specs.IsRow.{IsRow}
 use Rattle.transform_model.specs.Objects.{LowObject, low_objects, ascending_instances}
 use Rattle.transform_model.specs.Tables.{Row, tables_of}
 use Rattle.reach_plain.proofs.PolicyRules.Lists.{is_mapped, mapped_is, is_kept, kept_is, is_joined}
 use Rattle.transform_model.proofs.Lists.{gives, given}
-use Rattle.transform_forwarding_laws.proofs.Held.{instance_of_row, one_object, row_of_table, in_tables}
+use Rattle.transform_model.proofs.Held.{instance_of_row, one_object, row_of_table, in_tables}
 use Rattle.reach_plain.proofs.Found.{finds}
-use Rattle.transform_forwarding_laws.proofs.Lists.{only_longest, no_longest}
-use Rattle.transform_forwarding_laws.proofs.Valid.{one_node_at}
+use Rattle.transform_model.proofs.OneFound.{only_longest, no_longest}
+use Rattle.transform_model.proofs.Valid.{one_node_at}
 
 -- the agent of a node
 abbrev pub forwarder : Topology → Config → Node → Forwarder

@@ -23,17 +23,17 @@ use Rattle.reach_plain.specs.ConfigTypes.Port.{Port}
 use Rattle.reach_plain.specs.ConfigTypes.Node.{Node}
 use Rattle.reach_plain.specs.ConfigTypes.Topology.{Topology}
 use Rattle.reach_plain.specs.ConfigCheck.Sentences.{IsValid}
-use Rattle.transform_model.specs.NodeModel.Agent.{attached as listed}
-use Rattle.transform_model.specs.NodeModel.Wants.{is_at}
+use Rattle.node_model.specs.Agent.{attached as listed}
+use Rattle.node_model.specs.Wants.{is_at}
 use Rattle.transform_model.specs.IsObject.{IsObject}
 use Rattle.transform_model.specs.IsObject.IsObject.{of_network, of_port, of_left_circuit, of_right_circuit, of_networks, of_use}
 use Rattle.transform_model.specs.IsRow.{IsPort}
 use Rattle.transform_model.specs.Objects.{LowObject, low_objects, attached_port}
 use Rattle.reach_plain.proofs.PolicyRules.Lists.{is_mapped, mapped_is}
-use Rattle.transform_forwarding_laws.proofs.Agents.{forwarder, agents_of, label_leads, under_label}
-use Rattle.transform_forwarding_laws.proofs.Held.{object_is, is_object, one_object}
-use Rattle.transform_forwarding_laws.proofs.Lists.{only_answer, no_answer}
-use Rattle.transform_forwarding_laws.proofs.Valid.{one_node_at}
+use Rattle.transform_model.proofs.Agents.{forwarder, agents_of, label_leads, under_label}
+use Rattle.transform_model.proofs.Held.{object_is, is_object, one_object}
+use Rattle.transform_model.proofs.OneFound.{only_answer, no_answer}
+use Rattle.transform_model.proofs.Valid.{one_node_at}
 
 same_port : (a b : PortNo) → a.0 ≡ b.0 → a ≡ b
 same_port a b e = ap (λ n. record { 0 = n }) e

@@ -15,7 +15,7 @@ use Rattle.reach_plain.specs.ConfigCheck.Sentences.{IsValid, Overlap}
 use Rattle.reach_plain.proofs.ConfigCheck.Nested.{overlap_at}
 use Rattle.reach_plain.proofs.ConfigCheck.OneHome.{two_among}
 use Rattle.transform_model.specs.IsRow.{HoldsPort}
-use Rattle.transform_forwarding_laws.proofs.Valid.{subnet_form}
+use Rattle.transform_model.proofs.Valid.{subnet_form}
 
 -- a subnet of a network contains an address
 abbrev pub Holds : Network → ℕ → Type 0

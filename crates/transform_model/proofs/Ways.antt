@@ -34,11 +34,11 @@ use Rattle.transform_model.specs.IsRow.{IsRow, IsPort, IsCircuitAt, HoldsPort}
 use Rattle.transform_model.specs.Objects.{low_objects, attached_port, attached_circuit}
 use Rattle.transform_model.specs.Tables.{Row, host_route, circuit_route, holds_port}
 use Rattle.transform_model.specs.Uses.{Circuit}
-use Rattle.transform_forwarding_laws.proofs.Agents.{forwarder, agents_of, Needs, hop_of_row, label_leads, lookup_leads, lookup_fails, agent_is}
-use Rattle.transform_forwarding_laws.proofs.Held.{is_object}
-use Rattle.transform_forwarding_laws.proofs.Blocks.{host_is, host_holds, one_subnet}
-use Rattle.transform_forwarding_laws.proofs.Lists.{in_any, of_any}
-use Rattle.transform_forwarding_laws.proofs.Valid.{one_node, one_port_at, node_of_port, holds_port_address}
+use Rattle.transform_model.proofs.Agents.{forwarder, agents_of, Needs, hop_of_row, label_leads, lookup_leads, lookup_fails, agent_is}
+use Rattle.transform_model.proofs.Held.{is_object}
+use Rattle.transform_model.proofs.Blocks.{host_is, host_holds, one_subnet}
+use Rattle.transform_model.proofs.OneFound.{in_any, of_any}
+use Rattle.transform_model.proofs.Valid.{one_node, one_port_at, node_of_port, holds_port_address}
 
 -- a row is the route to a port of a network
 pub record IsHost (t : Topology) (c : Config) (far : Network) (i : InstanceId) (r : Row) : Type 0 where

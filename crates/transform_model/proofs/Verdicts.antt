@@ -18,8 +18,8 @@ use Rattle.reach_plain.specs.ConfigTypes.Network.{Network}
 use Rattle.reach_plain.specs.ConfigTypes.Topology.{Topology}
 use Rattle.reach_plain.specs.PolicyRules.Standing.{AreRelated}
 use Rattle.reach_plain.specs.ConfigCheck.Sentences.{IsValid}
-use Rattle.transform_model.specs.AclCompile.Oriented.{acl_rules, acl_value, ascending, put_prefix}
-use Rattle.transform_model.specs.NodeModel.Agent.{acl_entry}
+use Rattle.acl_compile.specs.Oriented.{acl_rules, acl_value, ascending, put_prefix}
+use Rattle.node_model.specs.Agent.{acl_entry}
 use Rattle.reach_plain.specs.Outcomes.{IsTowards}
 use Rattle.reach_plain.specs.Reachability.{network_towards}
 use Rattle.reach_plain.proofs.Found.{target_is}
@@ -30,8 +30,8 @@ use Rattle.transform_model.specs.Objects.{LowObject, low_objects}
 use Rattle.reach_plain.proofs.PolicyRules.Lists.{is_kept, kept_is}
 use Rattle.transform_model.proofs.Lists.{gives, given}
 use Rattle.transform_model.proofs.Objects.{one_named, one_numbered}
-use Rattle.transform_forwarding_laws.proofs.Held.{object_is, is_object}
-use Rattle.transform_forwarding_laws.proofs.Lists.{nothing_in, in_any, of_any}
+use Rattle.transform_model.proofs.Held.{object_is, is_object}
+use Rattle.transform_model.proofs.OneFound.{nothing_in, in_any, of_any}
 
 -- ---- the one access list that holds an address
 

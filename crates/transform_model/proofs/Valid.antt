@@ -17,7 +17,7 @@ use Rattle.reach_plain.specs.ConfigCheck.Finding.{network_named}
 use Rattle.reach_plain.proofs.ConfigCheck.OneHome.{HasBlocks, blocks_of, two_among}
 use Rattle.reach_plain.proofs.ConfigCheck.Finders.{finds_network_named, back_pairs}
 use Rattle.reach_plain.proofs.PolicyRules.Lists.{mapped_is}
-use Rattle.transform_forwarding_laws.proofs.Lists.{one_by_key}
+use Rattle.transform_model.proofs.OneFound.{one_by_key}
 
 module _ (t : Topology) (c : Config) (v : IsValid t c) where
   pub one_node : (a b : Node) → Contains t.nodes a → Contains t.nodes b → a.name ≡ b.name → a ≡ b

@@ -28,13 +28,13 @@ use Rattle.transform_model.specs.Tables.{Row, host_route, circuit_route}
 use Rattle.transform_model.specs.Uses.{ConfiguredUse, Circuit}
 use Rattle.transform_model.proofs.Circuits.{left_instance, right_instance}
 use Rattle.transform_model.proofs.InUse.{few_services, services_are}
-use Rattle.transform_forwarding_laws.proofs.Agents.{Needs, needed_at}
-use Rattle.transform_forwarding_laws.proofs.Held.{is_object}
-use Rattle.transform_forwarding_laws.proofs.Blocks.{Holds, host_is, held_by, not_circuit}
-use Rattle.transform_forwarding_laws.proofs.Hops.{hop_row}
-use Rattle.transform_forwarding_laws.proofs.Hops.HopRow.{to_circuit, rightwards, leftwards, left_host, right_host}
-use Rattle.transform_forwarding_laws.proofs.Valid.{node_of_service, holds_port_address}
-use Rattle.transform_forwarding_laws.proofs.Ways.{Arrives, LeadsOn, Way}
+use Rattle.transform_model.proofs.Agents.{Needs, needed_at}
+use Rattle.transform_model.proofs.Held.{is_object}
+use Rattle.transform_model.proofs.Blocks.{Holds, host_is, held_by, not_circuit}
+use Rattle.transform_model.proofs.Hops.{hop_row}
+use Rattle.transform_model.proofs.Hops.HopRow.{to_circuit, rightwards, leftwards, left_host, right_host}
+use Rattle.transform_model.proofs.Valid.{node_of_service, holds_port_address}
+use Rattle.transform_model.proofs.Ways.{Arrives, LeadsOn, Way}
 
 -- ---- the sides of a service
 

@@ -1,3 +1,0 @@
-pub mod TransformModel
-pub mod ReachPlain
-pub mod AclCompile

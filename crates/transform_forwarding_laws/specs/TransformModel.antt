@@ -1,9 +1,0 @@
--- What is passed on of `transform_model`, so that the crates above need not list it.
-pub use Rattle.transform_model.specs.Compiled
-pub use Rattle.transform_model.specs.IsNeeded
-pub use Rattle.transform_model.specs.IsObject
-pub use Rattle.transform_model.specs.IsRow
-pub use Rattle.transform_model.specs.IsUse
-pub use Rattle.transform_model.specs.Objects
-pub use Rattle.transform_model.specs.Tables
-pub use Rattle.transform_model.specs.Uses
