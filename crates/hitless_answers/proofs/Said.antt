@@ -8,8 +8,8 @@ use Rattle.config_types.specs.declared.edit.Edit.{Edit}
 use Rattle.config_check.specs.Checked.{Checked}
 use Rattle.config_check.specs.Edits.{edited}
 use Rattle.schedule_script.specs.declared.edits.TiedFault.{TiedFault}
-use Rattle.hitless_laws.specs.Keeping.{IsValidAsWritten}
-use Rattle.hitless_laws.proofs.ByKind.{accepted}
+use Rattle.hitless_cells.specs.Keeping.{IsValidAsWritten}
+use Rattle.hitless_cells.proofs.ByKind.{accepted}
 use Rattle.hitless_cells.specs.Interrupted.{IsInterrupted}
 use Rattle.hitless_cells.specs.Lines.{interruptions}
 use Rattle.hitless_cells.proofs.Exactly.{each_has_its_line, each_is_interrupted, hitless_exactly}

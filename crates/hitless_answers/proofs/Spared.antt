@@ -12,8 +12,8 @@ use Rattle.config_types.specs.declared.edit.Object.TheVariants as Objects
 use Rattle.config_types.specs.declared.edit.ObjectKind.TheVariants as Kinds
 use Rattle.config_check.specs.Checked.{Checked}
 use Rattle.config_check.specs.Edits.{edit_fault, edited}
-use Rattle.hitless_laws.specs.Keeping.{IsHitless, IsValidAsWritten}
-use Rattle.hitless_laws.proofs.ByKind.{accepted, delete_chain, delete_network, delete_node, delete_policy, delete_port, delete_service, new_chain, new_network, new_node, new_policy, new_port, new_service}
+use Rattle.hitless_cells.specs.Keeping.{IsHitless, IsValidAsWritten}
+use Rattle.hitless_cells.proofs.ByKind.{accepted, delete_chain, delete_network, delete_node, delete_policy, delete_port, delete_service, new_chain, new_network, new_node, new_policy, new_port, new_service}
 use Rattle.hitless_cells.specs.Lines.{interruptions}
 use Rattle.hitless_cells.proofs.Exactly.{hitless_exactly}
 use Rattle.hitless_answers.specs.Sparing.{replaces}

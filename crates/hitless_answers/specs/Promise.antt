@@ -8,7 +8,7 @@ use Rattle.config_types.specs.declared.edit.Edit.{Edit}
 use Rattle.config_check.specs.Checked.{Checked}
 use Rattle.config_check.specs.Edits.{edited}
 use Rattle.compile_answers.specs.Answers.{AreDocument}
-use Rattle.hitless_laws.specs.Keeping.{IsHitless, IsValidAsWritten}
+use Rattle.hitless_cells.specs.Keeping.{IsHitless, IsValidAsWritten}
 use Rattle.hitless_cells.specs.Interrupted.{EachHasLine, IsInterrupted}
 use Rattle.hitless_cells.specs.declared.lines.Interruption.{Interruption}
 use Rattle.hitless_answers.specs.Judging.{Standing, fault_in, standing_first, standing_next}

@@ -6,7 +6,7 @@ ghost use Rattle.ov_io.specs.Pieces.{HasWriteCause};
 ghost use Rattle.config_types.specs.Form.{has_edit_form};
 ghost use Rattle.compile_answers.specs.Answers.{WasGiven};
 ghost use Rattle.hitless_answers.specs.Answers.{FitsEdits, hitless_answer, hitless_taken, input_of};
-ghost use Rattle.hitless_laws.specs.Keeping.{IsValidAsWritten};
+ghost use Rattle.hitless_cells.specs.Keeping.{IsValidAsWritten};
 ghost use Rattle.hitless_answers.specs.Judging.{judgements, standing_first};
 ghost use Rattle.hitless_answers.specs.Promise.{AllReadSo, AreSaidOf, TookJudgements};
 ghost use Rattle.hitless_answers.specs.Reading.{hitless_at};

@@ -2,7 +2,7 @@
 ghost use Rattle.std.specs.Prelude.{◌≡◌, None, IsTrue, IfOk, OnOk, OnErr};
 ghost use Rattle.config_types.specs.Form.{has_edit_form};
 ghost use Rattle.config_check.specs.Edits.{edit_fault, edited};
-ghost use Rattle.hitless_laws.specs.Keeping.{IsValidAsWritten};
+ghost use Rattle.hitless_cells.specs.Keeping.{IsValidAsWritten};
 ghost use Rattle.hitless_cells.specs.Lines.{interruptions};
 ghost use Rattle.hitless_answers.specs.Judging.{judged, standing, standing_first, standing_next};
 

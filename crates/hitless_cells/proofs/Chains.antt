@@ -32,9 +32,9 @@ use Rattle.config_check.specs.Rules.{node_names}
 use Rattle.config_check.specs.Sentences.{AreDistinct, IsValid}
 use Rattle.config_check.proofs.Finders.{finds_node_named}
 use Rattle.reach_plain.proofs.Found.{finds}
-use Rattle.hitless_laws.specs.Ways.{IsNodeNamed, IsStop, SpeaksOf}
-use Rattle.hitless_laws.proofs.Expanding.{stand}
-use Rattle.hitless_laws.proofs.Uses.{one_chain}
+use Rattle.hitless_cells.specs.Ways.{IsNodeNamed, IsStop, SpeaksOf}
+use Rattle.hitless_cells.proofs.Expanding.{stand}
+use Rattle.hitless_cells.proofs.OneRule.{one_chain}
 use Rattle.hitless_cells.specs.Openings.{chain_in_policy, chain_in_rule, chain_of_use, service_node, service_numbered, speaks_of, stops_at, stops_of, used_chain}
 use Rattle.hitless_cells.specs.declared.stops.Stop.{Stop}
 use Rattle.hitless_cells.proofs.Sameness.{both_true, same_number}

@@ -10,8 +10,8 @@ use Rattle.config_types.specs.Form.{has_config_form}
 use Rattle.config_check.specs.Checked.{Checked}
 use Rattle.config_check.specs.Finding.{node_named}
 use Rattle.config_check.specs.Sentences.{IsValid}
-use Rattle.hitless_laws.specs.Keeping.{OfferAlike}
-use Rattle.hitless_laws.specs.Ways.{Offers, Track}
+use Rattle.hitless_cells.specs.Keeping.{OfferAlike}
+use Rattle.hitless_cells.specs.Ways.{Offers, Track}
 use Rattle.hitless_cells.specs.Courses.{way_of}
 use Rattle.hitless_cells.specs.Lines.{difference_by, difference_of, first_difference, leads, same_found, same_subnet, subnet_at, subnet_counts}
 use Rattle.hitless_cells.specs.Openings.{change_found, opened, opening_by, opening_of, stops_change, worse}

@@ -13,10 +13,10 @@ use Rattle.config_check.specs.Checked.{Checked}
 use Rattle.config_check.specs.Finding.{node_named}
 use Rattle.config_check.specs.Sentences.{IsValid}
 use Rattle.reach_plain.proofs.Kept.{valid}
-use Rattle.hitless_laws.specs.Keeping.{Delivers, IsHitless, IsValidAsWritten}
-use Rattle.hitless_laws.specs.Ways.{LeadsTo, Way}
-use Rattle.hitless_laws.proofs.Both.{two_keep}
-use Rattle.hitless_laws.proofs.Taken.{led_where_delivered}
+use Rattle.hitless_cells.specs.Keeping.{Delivers, IsHitless, IsValidAsWritten}
+use Rattle.hitless_cells.specs.Ways.{LeadsTo, Way}
+use Rattle.hitless_cells.proofs.Both.{two_keep}
+use Rattle.hitless_cells.proofs.Taken.{led_where_delivered}
 use Rattle.hitless_cells.specs.Cells.{are_near, cells_of, is_near}
 use Rattle.hitless_cells.specs.Courses.{course_on, way_of}
 use Rattle.hitless_cells.specs.Ends.{ends_of, joint_of}

@@ -32,8 +32,8 @@ use Rattle.config_check.specs.Checked.{Checked}
 use Rattle.config_check.specs.Sentences.{IsValid}
 use Rattle.config_check.proofs.Iffs.{list_all_true}
 use Rattle.reach_plain.proofs.Kept.{valid}
-use Rattle.hitless_laws.specs.Keeping.{IsValidAsWritten}
-use Rattle.hitless_laws.proofs.Named.{found_of}
+use Rattle.hitless_cells.specs.Keeping.{IsValidAsWritten}
+use Rattle.hitless_cells.proofs.Named.{found_of}
 use Rattle.hitless_cells.specs.Courses.{course_by, course_on}
 use Rattle.hitless_cells.specs.declared.course.Course.{Course}
 use Rattle.hitless_cells.specs.declared.course.Course.TheVariants.{Inside}

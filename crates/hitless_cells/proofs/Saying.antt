@@ -13,8 +13,8 @@ use Rattle.config_types.specs.declared.topology.Node.{Node}
 use Rattle.config_check.specs.Checked.{Checked}
 use Rattle.config_check.specs.Finding.{node_named}
 use Rattle.config_check.specs.Sentences.{IsValid}
-use Rattle.hitless_laws.specs.Ways.{LeadsTo, Offers, Track}
-use Rattle.hitless_laws.proofs.Offered.{offered}
+use Rattle.hitless_cells.specs.Ways.{LeadsTo, Offers, Track}
+use Rattle.hitless_cells.proofs.Offered.{offered}
 use Rattle.hitless_cells.specs.Courses.{way_of}
 use Rattle.hitless_cells.specs.Interrupted.{AreOtherNetworks, AreOtherPlaces, AreOtherServices, AreOtherSubnets, AreOtherTracks, IsNotOffered, OffersOtherwise, SaysOfWays, place_of, places_of}
 use Rattle.hitless_cells.specs.Lines.{difference_by, difference_of, first_difference, leads, same_found, same_subnet, subnet_counts}

@@ -32,9 +32,9 @@ use Rattle.config_check.specs.Rules.{network_names, node_names}
 use Rattle.config_check.specs.Sentences.{IsValid}
 use Rattle.config_check.proofs.Finders.{finds_network_named, finds_port_numbered}
 use Rattle.reach_plain.specs.Outcomes.{IsTowards, Leaves}
-use Rattle.hitless_laws.specs.Ways.{Arrives, GoesBy, IsNodeNamed, LeadsTo, Offers, Opens, Track, Way}
-use Rattle.hitless_laws.specs.Ways.Way.{inside, passing, through}
-use Rattle.hitless_laws.proofs.Alone.{one_entered, one_own, one_track}
+use Rattle.hitless_cells.specs.Ways.{Arrives, GoesBy, IsNodeNamed, LeadsTo, Offers, Opens, Track, Way}
+use Rattle.hitless_cells.specs.Ways.Way.{inside, passing, through}
+use Rattle.hitless_cells.proofs.Alone.{one_entered, one_own, one_track}
 use Rattle.hitless_cells.specs.Cells.{is_near}
 use Rattle.hitless_cells.specs.Courses.{course_by, course_of, course_on, way_of}
 use Rattle.hitless_cells.specs.Lines.{subnet_at}

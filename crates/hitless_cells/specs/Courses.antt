@@ -8,8 +8,8 @@ use Rattle.config_types.specs.declared.config.Config.{Config}
 use Rattle.config_types.specs.declared.config.Network.{Network}
 use Rattle.policy_rules.specs.Matching.{deciding}
 use Rattle.policy_rules.specs.declared.matching.Match.{Match}
-use Rattle.hitless_laws.specs.Ways.{Way}
-use Rattle.hitless_laws.specs.Ways.Way.{inside, passing, through}
+use Rattle.hitless_cells.specs.Ways.{Way}
+use Rattle.hitless_cells.specs.Ways.Way.{inside, passing, through}
 use Rattle.hitless_cells.specs.declared.course.Course.{Course}
 use Rattle.hitless_cells.specs.declared.course.Course.TheVariants.{Inside, Passing, Through}
 

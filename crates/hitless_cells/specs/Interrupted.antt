@@ -8,8 +8,8 @@ use Rattle.ov_types.specs.declared.prefix.Addr.{Addr}
 use Rattle.config_types.specs.declared.topology.Node.{Node}
 use Rattle.config_check.specs.Checked.{Checked}
 use Rattle.policy_regions.specs.Parts.{IsTuple}
-use Rattle.hitless_laws.specs.Keeping.{Delivers, Keep}
-use Rattle.hitless_laws.specs.Ways.{LeadsTo, Offers, Track, Way}
+use Rattle.hitless_cells.specs.Keeping.{Delivers, Keep}
+use Rattle.hitless_cells.specs.Ways.{LeadsTo, Offers, Track, Way}
 use Rattle.hitless_cells.specs.Courses.{way_of}
 use Rattle.hitless_cells.specs.Lines.{comes_first}
 use Rattle.hitless_cells.specs.declared.lines.Difference.{Difference}

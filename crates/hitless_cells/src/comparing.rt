@@ -1,7 +1,7 @@
 //! Which packets a change interrupts.
 ghost use Rattle.std.specs.Prelude.{◌≡◌, ◌↔◌, ◌++◌, [], flat_map, IfOk, IsTrue, OnOk};
 ghost use Rattle.std.specs.List.{All};
-ghost use Rattle.hitless_laws.specs.Keeping.{IsHitless, IsValidAsWritten};
+ghost use Rattle.hitless_cells.specs.Keeping.{IsHitless, IsValidAsWritten};
 ghost use Rattle.hitless_cells.specs.Interrupted.{EachHasLine, IsInterrupted};
 ghost use Rattle.hitless_cells.specs.Lines.{all_lines, by_number, interruptions, lines_between, lines_out};
 

@@ -1,5 +1,5 @@
-//! Which packets a change of a configuration interrupts. Tuples of packets on which both configurations decide alike make a
-//! cell, and one tuple of each cell is asked.
+//! Which changes of a configuration interrupt no packet, as laws, and which packets a change interrupts. Tuples of packets on
+//! which both configurations decide alike make a cell, and one tuple of each cell is asked.
 #![tactic(auto)]
 
 mod cells;
@@ -8,6 +8,7 @@ mod comparing;
 mod course;
 mod ends;
 mod joints;
+pub mod laws;
 mod lines;
 mod openings;
 mod steady;

@@ -58,14 +58,14 @@ use Rattle.machine_laws.proofs.Lists.{zip_length}
 use Rattle.machine_laws.proofs.Imports.{Imported, hop_import, imported_is, network_import}
 use Rattle.machine_laws.proofs.Objects.{AttachmentKind, ascending_in, ascending_to, attachment_is, left_kind, object_is as low_is, port_kind, right_kind}
 use Rattle.machine_laws.proofs.Written.{sound_setup}
-use Rattle.hitless_laws.specs.Hands.{HasPortAt, ImportsNumber, KeepsInHand}
-use Rattle.hitless_laws.specs.Keeping.{IsValidAsWritten}
-use Rattle.hitless_laws.specs.Ways.{GoesBy, IsStop, LeadsTo, Offers, Opens, Track, Way, visited}
-use Rattle.hitless_laws.specs.Ways.Way.{inside, passing, through}
-use Rattle.hitless_laws.proofs.Alone.{one_entered, one_network, one_own}
-use Rattle.hitless_laws.proofs.Around.{alone, holds_port, one_numbered}
-use Rattle.hitless_laws.proofs.Offered.{decider_stands}
-use Rattle.hitless_laws.proofs.Uses.{one_chain}
+use Rattle.hitless_cells.specs.Hands.{HasPortAt, ImportsNumber, KeepsInHand}
+use Rattle.hitless_cells.specs.Keeping.{IsValidAsWritten}
+use Rattle.hitless_cells.specs.Ways.{GoesBy, IsStop, LeadsTo, Offers, Opens, Track, Way, visited}
+use Rattle.hitless_cells.specs.Ways.Way.{inside, passing, through}
+use Rattle.hitless_cells.proofs.Alone.{one_entered, one_network, one_own}
+use Rattle.hitless_cells.proofs.Around.{alone, holds_port, one_numbered}
+use Rattle.hitless_cells.proofs.Offered.{decider_stands}
+use Rattle.hitless_cells.proofs.OneRule.{one_chain}
 use Rattle.machine_moment_laws.specs.Arriving.{GoesOnIn, HeadsInCommon, IsCommonWay, Meets, StartsInCommon}
 use Rattle.machine_moment_laws.specs.Common.{WasHeld, common, entered, placed, standing}
 use Rattle.machine_moment_laws.proofs.Parts.{object_is}

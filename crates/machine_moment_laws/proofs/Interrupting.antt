@@ -23,11 +23,11 @@ use Rattle.machine_model.specs.Events.{after, forwarders}
 use Rattle.machine_model.specs.Network.{MachineState, start}
 use Rattle.machine_model.specs.Setup.{opening}
 use Rattle.machine_laws.specs.Headline.{IsWritten}
-use Rattle.hitless_laws.specs.Keeping.{IsHitless, IsValidAsWritten, Keep}
-use Rattle.hitless_laws.specs.Kinds.{DeleteIsHitless, NewIsHitless}
-use Rattle.hitless_laws.specs.Ways.{Way}
-use Rattle.hitless_laws.proofs.Both.{two_keep}
-use Rattle.hitless_laws.proofs.ByKind.{delete_chain, delete_network, new_chain, new_network, new_node, new_policy, new_port, new_service, delete_node, delete_policy, delete_port, delete_service}
+use Rattle.hitless_cells.specs.Keeping.{IsHitless, IsValidAsWritten, Keep}
+use Rattle.hitless_cells.specs.Kinds.{DeleteIsHitless, NewIsHitless}
+use Rattle.hitless_cells.specs.Ways.{Way}
+use Rattle.hitless_cells.proofs.Both.{two_keep}
+use Rattle.hitless_cells.proofs.ByKind.{delete_chain, delete_network, new_chain, new_network, new_node, new_policy, new_port, new_service, delete_node, delete_policy, delete_port, delete_service}
 use Rattle.machine_moment_laws.specs.Windows.{AtMomentsOfWindows, configurations}
 use Rattle.machine_moment_laws.proofs.CommonMoments.{all_are_written, first_one, others}
 use Rattle.machine_moment_laws.specs.Kept.{DeleteInterruptsNothing, GoesByEither, HitlessInterruptsNothing, IsOfEither, KeptInOneEdit, NewInterruptsNothing}

@@ -34,10 +34,10 @@ use Rattle.machine_model.specs.Events.{after, forwarders}
 use Rattle.machine_model.specs.Network.{MachineState, start}
 use Rattle.machine_model.specs.Setup.{opening}
 use Rattle.machine_laws.specs.Headline.{IsWritten}
-use Rattle.hitless_laws.specs.Keeping.{Keep}
-use Rattle.hitless_laws.specs.Ways.{LeadsTo, Offers, Track, Way, visited}
-use Rattle.hitless_laws.proofs.Alone.{one_entered, one_own}
-use Rattle.hitless_laws.proofs.Visits.{visits}
+use Rattle.hitless_cells.specs.Keeping.{Keep}
+use Rattle.hitless_cells.specs.Ways.{LeadsTo, Offers, Track, Way, visited}
+use Rattle.hitless_cells.proofs.Alone.{one_entered, one_own}
+use Rattle.hitless_cells.proofs.Visits.{visits}
 use Rattle.machine_moment_laws.specs.Arriving.{DeliversByOne, GoesOnIn, GoesTheCommonWay, IsLedBy, IsLedByAll, agent_at_node}
 use Rattle.machine_moment_laws.specs.Windows.{AtMomentsOfWindows}
 use Rattle.machine_moment_laws.proofs.Arriving.{go_the_common_way}

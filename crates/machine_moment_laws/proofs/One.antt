@@ -12,11 +12,11 @@ use Rattle.route_targets.specs.Forwarding.{forwarding}
 use Rattle.schedule_script.specs.ConfigCheck.Checked.{Checked}
 use Rattle.reach_plain.specs.Reachability.{reachability}
 use Rattle.node_laws.specs.NodeModel.Members.{Member}
-use Rattle.hitless_laws.specs.Keeping.{IsValidAsWritten, Keep}
-use Rattle.hitless_laws.specs.Ways.{LeadsTo, Offers, Track, Way, visited}
-use Rattle.hitless_laws.proofs.Offered.{offered}
-use Rattle.hitless_laws.proofs.Taken.{led_where_delivered}
-use Rattle.hitless_laws.proofs.Visits.{visits}
+use Rattle.hitless_cells.specs.Keeping.{IsValidAsWritten, Keep}
+use Rattle.hitless_cells.specs.Ways.{LeadsTo, Offers, Track, Way, visited}
+use Rattle.hitless_cells.proofs.Offered.{offered}
+use Rattle.hitless_cells.proofs.Taken.{led_where_delivered}
+use Rattle.hitless_cells.proofs.Visits.{visits}
 use Rattle.machine_model.specs.Events.{after, forwarders}
 use Rattle.machine_model.specs.Network.{MachineState, start}
 use Rattle.machine_model.specs.Setup.{opening}

@@ -24,12 +24,12 @@ use Rattle.machine_model.specs.Setup.{Name, Setup, checked, edited, edited_witho
 use Rattle.machine_model.proofs.NodesFact.{HasSetup, setup_steps}
 use Rattle.machine_model.proofs.Walk.{next_walk}
 use Rattle.machine_laws.specs.Headline.{IsWritten}
-use Rattle.hitless_laws.specs.Hands.{HasPortAt, ImportsNumber, KeepsInHand}
-use Rattle.hitless_laws.specs.Keeping.{IsValidAsWritten}
-use Rattle.hitless_laws.specs.Ways.{Offers, Track, Way}
-use Rattle.hitless_laws.proofs.ByKind.{parts_of_fault}
-use Rattle.hitless_laws.proofs.Changes.{Change, changed, turned}
-use Rattle.hitless_laws.proofs.Hands.{across}
+use Rattle.hitless_cells.specs.Hands.{HasPortAt, ImportsNumber, KeepsInHand}
+use Rattle.hitless_cells.specs.Keeping.{IsValidAsWritten}
+use Rattle.hitless_cells.specs.Ways.{Offers, Track, Way}
+use Rattle.hitless_cells.proofs.ByKind.{parts_of_fault}
+use Rattle.hitless_cells.proofs.OneEdit.{Change, changed, turned}
+use Rattle.hitless_cells.proofs.Hands.{across}
 use Rattle.machine_moment_laws.specs.Windows.{led_by, led_to, led_to_by}
 use Rattle.machine_moment_laws.specs.Kept.{IsInHand}
 

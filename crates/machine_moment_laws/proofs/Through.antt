@@ -36,8 +36,8 @@ use Rattle.machine_laws.specs.Headline.{IsWritten}
 use Rattle.machine_laws.proofs.Circuits.{other_of_left, other_of_right}
 use Rattle.machine_laws.proofs.Lists.{some_at}
 use Rattle.machine_laws.proofs.Objects.{ascending_in}
-use Rattle.hitless_laws.specs.Ways.{IsStop, Offers, Track, visited}
-use Rattle.hitless_laws.specs.Ways.Way.{through}
+use Rattle.hitless_cells.specs.Ways.{IsStop, Offers, Track, visited}
+use Rattle.hitless_cells.specs.Ways.Way.{through}
 use Rattle.machine_moment_laws.specs.Arriving.{IsCommonWay}
 use Rattle.machine_moment_laws.specs.Common.{common, placed, standing, stands_at}
 use Rattle.machine_moment_laws.proofs.Parts.{object_is}

@@ -51,10 +51,10 @@ use Rattle.machine_model.specs.Setup.{low_in, opening}
 use Rattle.machine_laws.specs.Headline.{IsWritten}
 use Rattle.machine_laws.proofs.Imports.{network_in, small}
 use Rattle.machine_laws.proofs.Lists.{zip_length}
-use Rattle.hitless_laws.specs.Ways.{IsStop, OffersUse, Opens, SpeaksOf, Track, Way}
-use Rattle.hitless_laws.specs.Ways.Way.{inside, passing, through}
-use Rattle.hitless_laws.proofs.Alone.{one_network}
-use Rattle.hitless_laws.proofs.Uses.{among_all}
+use Rattle.hitless_cells.specs.Ways.{IsStop, OffersUse, Opens, SpeaksOf, Track, Way}
+use Rattle.hitless_cells.specs.Ways.Way.{inside, passing, through}
+use Rattle.hitless_cells.proofs.Alone.{one_network}
+use Rattle.hitless_cells.proofs.OneRule.{among_all}
 use Rattle.machine_moment_laws.specs.Common.{entered}
 use Rattle.machine_moment_laws.proofs.Made.{has_object, valid}
 

@@ -8,8 +8,8 @@ use Rattle.ov_types.specs.declared.packet.Packet.{Packet}
 use Rattle.route_targets.specs.Forwarding.{forwarding}
 use Rattle.schedule_script.specs.ConfigCheck.Checked.{Checked}
 use Rattle.reach_plain.specs.Reachability.{reachability}
-use Rattle.hitless_laws.specs.Keeping.{Keep}
-use Rattle.hitless_laws.specs.Ways.{Offers, Track, Way, visited}
+use Rattle.hitless_cells.specs.Keeping.{Keep}
+use Rattle.hitless_cells.specs.Ways.{Offers, Track, Way, visited}
 use Rattle.machine_model.specs.Events.{forwarders}
 use Rattle.machine_model.specs.Network.{MachineState}
 use Rattle.machine_moment_laws.specs.Kept.{IsDeliveredBy, IsInHand}

@@ -15,8 +15,8 @@ use Rattle.machine_laws.specs.Refusing.{kept_events}
 use Rattle.schedule_laws.specs.Isolated.{StandsAt}
 use Rattle.schedule_laws.specs.RunningModel.Stands.{message_size}
 use Rattle.schedule_laws.specs.Runs.{tied_moment}
-use Rattle.hitless_laws.specs.Keeping.{Keep}
-use Rattle.hitless_laws.specs.Ways.{Way}
+use Rattle.hitless_cells.specs.Keeping.{Keep}
+use Rattle.hitless_cells.specs.Ways.{Way}
 use Rattle.machine_moment_laws.specs.Windows.{IsOfWindow}
 use Rattle.machine_moment_laws.specs.Kept.{IsDeliveredBy, IsInHand}
 use Rattle.machine_moment_laws.specs.KeptSchedules.{OfOutcome, configurations_since}

@@ -17,10 +17,10 @@ use Rattle.config_types.specs.declared.edit.ObjectKind.{ObjectKind}
 use Rattle.schedule_script.specs.ConfigCheck.Checked.{Checked}
 use Rattle.schedule_script.specs.ConfigCheck.Edits.{edit_fault, edited}
 use Rattle.reach_plain.specs.Reachability.{reachability}
-use Rattle.hitless_laws.specs.Hands.{KeepsInHand}
-use Rattle.hitless_laws.specs.Keeping.{Delivers, IsHitless, Keep, OfferAlike}
-use Rattle.hitless_laws.specs.Ways.{LeadsTo, Offers, Track, Way, visited}
-use Rattle.hitless_laws.specs.Ways.Way.{inside, passing, through}
+use Rattle.hitless_cells.specs.Hands.{KeepsInHand}
+use Rattle.hitless_cells.specs.Keeping.{Delivers, IsHitless, Keep, OfferAlike}
+use Rattle.hitless_cells.specs.Ways.{LeadsTo, Offers, Track, Way, visited}
+use Rattle.hitless_cells.specs.Ways.Way.{inside, passing, through}
 use Rattle.machine_model.specs.Events.{forwarders}
 use Rattle.machine_model.specs.Network.{MachineState}
 use Rattle.machine_moment_laws.specs.Windows.{IsOfOneEdit}

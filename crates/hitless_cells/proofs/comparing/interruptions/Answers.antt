@@ -1,6 +1,6 @@
 use Rattle.std.proofs.Common.{◌≡◌, ◌↔◌, List, [], subst, sym, ◌∙◌}
 use Rattle.std.specs.List.{All}
-use Rattle.hitless_laws.specs.Keeping.{IsHitless}
+use Rattle.hitless_cells.specs.Keeping.{IsHitless}
 use Rattle.hitless_cells.specs.Interrupted.{EachHasLine, IsInterrupted}
 use Rattle.hitless_cells.specs.Lines.{interruptions}
 use Rattle.hitless_cells.specs.declared.lines.Interruption.{Interruption}

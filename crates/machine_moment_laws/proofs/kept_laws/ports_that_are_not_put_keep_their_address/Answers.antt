@@ -1,4 +1,4 @@
-use Rattle.hitless_laws.proofs.ByKind.{parts_of_fault}
+use Rattle.hitless_cells.proofs.ByKind.{parts_of_fault}
 use Rattle.machine_moment_laws.proofs.KeptAddresses.{not_put}
 use Rattle.machine_moment_laws.proofs.Made.{valid}
 use Rattle.machine_moment_laws.proofs.kept_laws.ports_that_are_not_put_keep_their_address.Goals as goal

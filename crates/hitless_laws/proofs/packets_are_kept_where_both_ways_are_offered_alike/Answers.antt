@@ -1,5 +1,0 @@
-use Rattle.hitless_laws.proofs.Both.{two_keep}
-use Rattle.hitless_laws.proofs.packets_are_kept_where_both_ways_are_offered_alike.Goals as goal
-
-pub returns : goal.returns
-returns c = two_keep

@@ -1,6 +1,0 @@
-use Rattle.reach_plain.proofs.Kept.{valid}
-use Rattle.hitless_laws.proofs.Alone.{one_way}
-use Rattle.hitless_laws.proofs.packets_are_led_by_one_way.Goals as goal
-
-pub returns : goal.returns
-returns c = λ x p number other way another v. one_way x (valid x.topology x.config v.valid) v.form p number other way another

@@ -1,5 +1,0 @@
-use Rattle.hitless_laws.proofs.Taken.{led_where_delivered}
-use Rattle.hitless_laws.proofs.packets_are_led_where_they_are_delivered.Goals as goal
-
-pub returns : goal.returns
-returns c = λ x p number v. led_where_delivered x v p number

@@ -1,5 +1,0 @@
-use Rattle.hitless_laws.proofs.Speaking.{speaks_where_taken}
-use Rattle.hitless_laws.proofs.uses_are_offered_where_they_could_be_taken.Goals as goal
-
-pub returns : goal.returns
-returns c = speaks_where_taken

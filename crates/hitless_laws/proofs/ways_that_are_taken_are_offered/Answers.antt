@@ -1,6 +1,0 @@
-use Rattle.reach_plain.proofs.Kept.{valid}
-use Rattle.hitless_laws.proofs.Offered.{offered}
-use Rattle.hitless_laws.proofs.ways_that_are_taken_are_offered.Goals as goal
-
-pub returns : goal.returns
-returns c = λ x p number way v. offered x (valid x.topology x.config v.valid) p number way
