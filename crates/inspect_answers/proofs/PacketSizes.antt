@@ -33,9 +33,9 @@ use Rattle.policy_rules.proofs.Taking.{deciding_iff}
 use Rattle.reach_plain.specs.Outcomes.{Becomes, IsLetThrough, LeadsThrough, MayEnter}
 use Rattle.reach_plain.specs.Reachability.{network_towards, reachability}
 use Rattle.reach_plain.proofs.Becoming.{outcome_iff}
-use Rattle.inspect_reasons.specs.Causes.{asked, attached, between, causes, decided, failing, fails_forwards, fails_mirrored, holder, leading, leading_by, leaving, nowhere, policy_of, skipped, starting, towards}
-use Rattle.inspect_reasons.specs.declared.cause.Cause.{Cause}
-use Rattle.inspect_reasons.specs.declared.cause.Cause.TheVariants as Of
+use Rattle.inspect_rules.specs.Causes.{asked, attached, between, causes, decided, failing, fails_forwards, fails_mirrored, holder, leading, leading_by, leaving, nowhere, policy_of, skipped, starting, towards}
+use Rattle.inspect_rules.specs.declared.cause.Cause.{Cause}
+use Rattle.inspect_rules.specs.declared.cause.Cause.TheVariants as Of
 use Rattle.inspect_walks.specs.Sizes.{has_name_size}
 use Rattle.inspect_json.specs.Sizes.{has_cause_size, has_outcome_size, has_rule_size, has_service_size}
 use Rattle.inspect_answers.proofs.OfEach.{Each, OfSome, each_append, each_cond, each_flat, each_map, each_of, each_passes, passes_each, passes_of}

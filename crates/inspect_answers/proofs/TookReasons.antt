@@ -11,9 +11,9 @@ use Rattle.config_types.specs.Form.{has_config_form}
 use Rattle.config_check.specs.Checked.{Checked}
 use Rattle.config_check.specs.Rules.{first_broken}
 use Rattle.reach_plain.specs.Reachability.{reachability}
-use Rattle.inspect_reasons.specs.Causes.{causes}
-use Rattle.inspect_reasons.specs.declared.cause.Cause.{Cause}
-use Rattle.inspect_reasons.proofs.Explained.{explains}
+use Rattle.inspect_rules.specs.Causes.{causes}
+use Rattle.inspect_rules.specs.declared.cause.Cause.{Cause}
+use Rattle.inspect_rules.proofs.Explained.{explains}
 use Rattle.inspect_walks.specs.Sizes.{has_step_size}
 use Rattle.inspect_walks.specs.Told.{told_walk}
 use Rattle.inspect_walks.proofs.Law.{tells_walk}

@@ -14,10 +14,10 @@ use Rattle.config_check.specs.Checked.{Checked}
 use Rattle.config_check.specs.Rules.{first_broken}
 use Rattle.reach_plain.specs.Reachability.{reachability}
 use Rattle.inspect_changes.specs.Report.Outcomes.{outcome_line}
-use Rattle.inspect_reasons.specs.CauseLines.{cause_line}
-use Rattle.inspect_reasons.specs.Causes.{causes}
-use Rattle.inspect_reasons.specs.Explaining.{Explain}
-use Rattle.inspect_reasons.specs.declared.cause.Cause.{Cause}
+use Rattle.inspect_rules.specs.CauseLines.{cause_line}
+use Rattle.inspect_rules.specs.Causes.{causes}
+use Rattle.inspect_rules.specs.Explaining.{Explain}
+use Rattle.inspect_rules.specs.declared.cause.Cause.{Cause}
 use Rattle.inspect_walks.specs.Lines.{step_line}
 use Rattle.inspect_walks.specs.Sizes.{has_step_size}
 use Rattle.inspect_walks.specs.Told.{TellsWalk, told_walk}

@@ -7,7 +7,7 @@ ghost use Rattle.ov_io.specs.Inputs.{TookFront};
 ghost use Rattle.ov_io.specs.Pieces.{HasWriteCause, IsOnItsWay};
 ghost use Rattle.compile_answers.specs.Answers.{answer_good};
 ghost use Rattle.inspect_json.specs.declared.form.Form.{Form as LineForm};
-ghost use Rattle.inspect_reasons.specs.CauseLines.{cause_line};
+ghost use Rattle.inspect_rules.specs.CauseLines.{cause_line};
 ghost use Rattle.inspect_walks.specs.Lines.{step_line};
 ghost use Rattle.inspect_walks.specs.TransformModel.Compiled.{compiled_tables};
 ghost use Rattle.inspect_walks.specs.Walks.{compiled_agents};
@@ -24,7 +24,7 @@ use config_check::Valid;
 use config_model::{ReachInput, ReadRefusal, read_reach};
 use inspect_changes::LinesOf;
 use inspect_json::{ExplainedJson, Form};
-use inspect_reasons::{Cause, CauseText, causes_of};
+use inspect_rules::{Cause, CauseText, causes_of};
 use inspect_walks::{Compiled, StepText, TableAgent, ToldStep, agents_of, compiled, walk_of};
 use ov_io::{Sink, TextOut, WriteRefusal, write_gathered};
 use ov_json::value_of;
@@ -43,7 +43,7 @@ struct CauseLines {
 impl LinesOf<Cause> for CauseLines {
     ghost lines = { λ w cause. cause_line w.number cause };
 
-    #[tactic(auto, unfolding(inspect_reasons::specs::CauseLines::cause_line))]
+    #[tactic(auto, unfolding(inspect_rules::specs::CauseLines::cause_line))]
     fn append(&self, _alloc: Global, cause: &Cause, out: &mut TextOut) -> Result<(), NoMemory> {
         let number = self.number;
         let cause = CauseText(*cause);

@@ -22,9 +22,9 @@ use Rattle.inspect_rules.specs.declared.idle.Idle.TheVariants as Idles
 use Rattle.inspect_json.specs.IdleValues.{idle_chain_value, idle_policy_value, idle_rule_value, idle_value}
 use Rattle.inspect_json.specs.ChangeValues.{came_value, difference_value, fate_rule, fate_services, fate_value, network_value, object_value, port_name, port_value, service_object_value, subnet_value, went_value}
 use Rattle.inspect_json.specs.OutcomeValues.{delivered_value, denier_value, dropped_value, outcome_value, port_number_value, to_drop_value, to_drop_why_value, why_rule}
-use Rattle.inspect_reasons.specs.declared.cause.Cause.{Cause}
-use Rattle.inspect_reasons.specs.declared.cause.Cause.TheVariants as Of
-use Rattle.inspect_reasons.specs.declared.cause.Condition.{Condition}
+use Rattle.inspect_rules.specs.declared.cause.Cause.{Cause}
+use Rattle.inspect_rules.specs.declared.cause.Cause.TheVariants as Of
+use Rattle.inspect_rules.specs.declared.cause.Condition.{Condition}
 use Rattle.inspect_json.specs.ReasonValues.{attached_value, cause_value, decided_value, explained_value, mirrored_value, near_value, placed_value, skipped_value}
 use Rattle.ov_types.specs.Prefix.{Block}
 use Rattle.ov_types.specs.declared.rows.Entry.{Entry}

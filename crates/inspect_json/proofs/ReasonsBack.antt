@@ -15,11 +15,11 @@ use Rattle.ov_types.specs.declared.packet.Why.{Why}
 use Rattle.ov_types.specs.declared.packet.Why.TheVariants as Reason
 use Rattle.config_types.specs.Form.{has_config_form}
 use Rattle.config_types.specs.declared.config.Config.{Config}
-use Rattle.inspect_reasons.specs.CauseLines.{condition_text, reading_text}
-use Rattle.inspect_reasons.specs.declared.cause.Cause.{Cause}
-use Rattle.inspect_reasons.specs.declared.cause.Cause.TheVariants as Of
-use Rattle.inspect_reasons.specs.declared.cause.Condition.{Condition}
-use Rattle.inspect_reasons.specs.declared.cause.Condition.TheVariants.{Protocol, SourcePorts, DestinationPorts, Direction}
+use Rattle.inspect_rules.specs.CauseLines.{condition_text, reading_text}
+use Rattle.inspect_rules.specs.declared.cause.Cause.{Cause}
+use Rattle.inspect_rules.specs.declared.cause.Cause.TheVariants as Of
+use Rattle.inspect_rules.specs.declared.cause.Condition.{Condition}
+use Rattle.inspect_rules.specs.declared.cause.Condition.TheVariants.{Protocol, SourcePorts, DestinationPorts, Direction}
 use Rattle.inspect_json.specs.Form.{IsReadBack}
 use Rattle.inspect_json.specs.OutcomeValues.{delivered_value, denier_value, dropped_value, outcome_value, port_number_value, why_rule, why_word}
 use Rattle.inspect_json.specs.ReasonValues.{attached_value, cause_value, decided_value, explained_value, mirrored_value, near_value, placed_value, skipped_value}

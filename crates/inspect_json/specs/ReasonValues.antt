@@ -4,10 +4,10 @@ use Rattle.serde_json.specs.Data.{Data, member, no_members, null, object, string
 use Rattle.ov_types.specs.declared.packet.Outcome.{Outcome}
 use Rattle.ov_types.specs.declared.packet.RuleNo.{RuleNo}
 use Rattle.config_types.specs.declared.config.Config.{Config}
-use Rattle.inspect_reasons.specs.CauseLines.{condition_text, reading_text}
-use Rattle.inspect_reasons.specs.declared.cause.Cause.{Cause}
-use Rattle.inspect_reasons.specs.declared.cause.Cause.TheVariants as Of
-use Rattle.inspect_reasons.specs.declared.cause.Condition.{Condition}
+use Rattle.inspect_rules.specs.CauseLines.{condition_text, reading_text}
+use Rattle.inspect_rules.specs.declared.cause.Cause.{Cause}
+use Rattle.inspect_rules.specs.declared.cause.Cause.TheVariants as Of
+use Rattle.inspect_rules.specs.declared.cause.Condition.{Condition}
 use Rattle.inspect_walks.specs.declared.told_step.ToldStep.{ToldStep}
 use Rattle.inspect_json.specs.OutcomeValues.{outcome_value}
 use Rattle.inspect_json.specs.Values.{list_value, name_value, number_value}

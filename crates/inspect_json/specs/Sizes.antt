@@ -19,8 +19,8 @@ use Rattle.inspect_changes.specs.declared.objects.Object.TheVariants as Is
 use Rattle.inspect_changes.specs.declared.way.Way.{Way}
 use Rattle.inspect_rules.specs.declared.idle.Idle.{Idle}
 use Rattle.inspect_rules.specs.declared.idle.Idle.TheVariants.{Rule, Policy, Chain}
-use Rattle.inspect_reasons.specs.declared.cause.Cause.{Cause}
-use Rattle.inspect_reasons.specs.declared.cause.Cause.TheVariants as Of
+use Rattle.inspect_rules.specs.declared.cause.Cause.{Cause}
+use Rattle.inspect_rules.specs.declared.cause.Cause.TheVariants as Of
 use Rattle.inspect_walks.specs.Sizes.{has_name_size}
 use Rattle.inspect_json.specs.Values.{passage_services}
 

@@ -17,7 +17,7 @@ ghost use Rattle.inspect_changes.specs.declared.objects.Object.{Object};
 ghost use Rattle.inspect_changes.specs.declared.pairs.Pairs.{Pairs};
 ghost use Rattle.inspect_changes.specs.declared.way.Way.{Way};
 ghost use Rattle.inspect_rules.specs.declared.idle.Idle.{Idle};
-ghost use Rattle.inspect_reasons.specs.declared.cause.Cause.{Cause};
+ghost use Rattle.inspect_rules.specs.declared.cause.Cause.{Cause};
 ghost use Rattle.inspect_walks.specs.Lines.{step_text};
 ghost use Rattle.inspect_walks.specs.Sizes.{has_step_size};
 ghost use Rattle.inspect_walks.specs.declared.told_step.ToldStep.{ToldStep};

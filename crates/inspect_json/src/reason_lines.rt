@@ -6,7 +6,7 @@ use crate::line::append_line;
 use crate::reason_values::explained_value;
 use config_types::Config;
 use inspect_changes::LinesOf;
-use inspect_reasons::Cause;
+use inspect_rules::Cause;
 use inspect_walks::ToldStep;
 use ov_io::TextOut;
 use ov_types::{NoMemory, Outcome};

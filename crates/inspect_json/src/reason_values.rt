@@ -1,7 +1,7 @@
 //! The JSON values of what outcomes come of.
 ghost use Rattle.std.specs.Prelude.{◌≡◌, IfOk};
 ghost use Rattle.serde_json.specs.View.{view};
-ghost use Rattle.inspect_reasons.specs.CauseLines.{condition_text, reading_text};
+ghost use Rattle.inspect_rules.specs.CauseLines.{condition_text, reading_text};
 ghost use Rattle.inspect_json.specs.ReasonValues.{attached_value, cause_value, decided_value, explained_value};
 ghost use Rattle.inspect_json.specs.ReasonValues.{mirrored_value, near_value, placed_value, skipped_value};
 ghost use Rattle.inspect_json.specs.Values.{list_value};
@@ -10,7 +10,7 @@ use crate::outcome_values::outcome_value;
 use crate::values::name_value;
 use crate::walk_values::walk_value;
 use config_types::Config;
-use inspect_reasons::{Cause, Condition};
+use inspect_rules::{Cause, Condition};
 use inspect_walks::ToldStep;
 use ov_types::{Name, Outcome, RuleNo};
 use serde_json::{Value, json};

@@ -1,3 +1,8 @@
+mod Kept
+mod Failing
+mod Asked
+mod Nowhere
+pub mod Explained
 pub mod Deciding
 pub mod Unneeded
 pub mod Claimants

@@ -1,3 +1,6 @@
+pub mod Causes
+pub mod CauseLines
+pub mod Explaining
 pub mod Deciders
 pub mod Idle
 pub mod IdleSentences

@@ -2,7 +2,7 @@ use Rattle.std.proofs.Common.{◌++◌, ℕ, List, flat_map}
 use Rattle.ov_io.proofs.PieceLemmas.{on_err}
 use Rattle.compile_answers.proofs.Ways.{err_then, front_first, front_then, ok_then}
 use Rattle.inspect_changes.specs.Report.Outcomes.{outcome_line}
-use Rattle.inspect_reasons.specs.CauseLines.{cause_line}
+use Rattle.inspect_rules.specs.CauseLines.{cause_line}
 use Rattle.inspect_walks.specs.Lines.{step_line}
 use Rattle.inspect_answers.proofs.explaining.write_explained.Goals as goal
 

@@ -1,5 +1,0 @@
-mod Kept
-mod Failing
-mod Asked
-mod Nowhere
-pub mod Explained
