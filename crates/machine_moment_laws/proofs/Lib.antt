@@ -1,4 +1,10 @@
 -- Lemmas, in the order in which they stand on each other.
+pub mod AsCompiled
+mod Promising
+pub mod TiesKept
+pub mod TiedMoments
+pub mod SchedulePlaced
+pub mod RunningModel
 pub mod SoFar
 pub mod LowStood
 pub mod ImportsStood
@@ -38,7 +44,6 @@ pub mod Refusals
 pub mod Dropped
 pub mod Revoked
 pub mod RevocationPlaced
-pub mod ScheduleLaws
 pub mod Seats
 pub mod OfSome
 pub mod Beginning

@@ -18,11 +18,11 @@ use Rattle.machine_model.specs.Events.{MachineEvent, Edits, Deliver, DeliverOcte
 use Rattle.machine_model.specs.Rounds.{is_unbroken}
 use Rattle.machine_laws.specs.Headline.{IsWritten}
 use Rattle.machine_laws.specs.Refusing.{TiedNetwork, after_tied, next_tied, tied_start}
-use Rattle.schedule_laws.specs.RunningModel.Stands.{message_size}
-use Rattle.schedule_laws.proofs.RunningModel.Sizes.{positive}
-use Rattle.schedule_laws.specs.Runs.{answer_tied, answers, run_tied, tied_moment}
-use Rattle.schedule_laws.proofs.AsCompiled.{forms_of_front}
-use Rattle.schedule_laws.proofs.Kept.{asked_of_kept, kept, same_moment}
+use Rattle.machine_moment_laws.specs.RunningModel.Stands.{message_size}
+use Rattle.machine_moment_laws.proofs.RunningModel.Sizes.{positive}
+use Rattle.machine_moment_laws.specs.Runs.{answer_tied, answers, run_tied, tied_moment}
+use Rattle.machine_moment_laws.proofs.AsCompiled.{forms_of_front}
+use Rattle.machine_moment_laws.proofs.TiesKept.{asked_of_kept, kept, same_moment}
 use Rattle.machine_moment_laws.specs.Revocation.{DropsIfRefused, DropsWhatIsRefused, HasTwoRounds, delivers_or_looks}
 use Rattle.machine_moment_laws.specs.RevocationSchedules.{IsRevoked, OfTrace, RevokedSoFar}
 use Rattle.machine_moment_laws.proofs.Revoked.{refused_packets_are_soon_dropped}

@@ -12,9 +12,9 @@ use Rattle.schedule_script.specs.declared.tied_answer.TiedAnswer.{TiedAnswer}
 use Rattle.schedule_script.specs.declared.tied_answer.TiedAnswer.TheVariants.{Answered}
 use Rattle.machine_model.specs.Events.{event_of}
 use Rattle.machine_laws.specs.Refusing.{kept_events}
-use Rattle.schedule_laws.specs.Isolated.{StandsAt}
-use Rattle.schedule_laws.specs.RunningModel.Stands.{message_size}
-use Rattle.schedule_laws.specs.Runs.{tied_moment}
+use Rattle.machine_moment_laws.specs.Isolated.{StandsAt}
+use Rattle.machine_moment_laws.specs.RunningModel.Stands.{message_size}
+use Rattle.machine_moment_laws.specs.Runs.{tied_moment}
 use Rattle.hitless_cells.specs.Keeping.{Keep}
 use Rattle.hitless_cells.specs.Ways.{Way}
 use Rattle.machine_moment_laws.specs.Windows.{IsBeginning, IsOfOneEdit, IsOfWindow, configurations}

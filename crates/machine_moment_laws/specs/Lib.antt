@@ -1,9 +1,14 @@
 -- The files of definitions, in the order in which they stand on each other.
+pub mod Ends
+pub mod Compiled
+pub mod Runs
+pub mod Isolated
+pub mod TiedCompiled
+pub mod RunningModel
 pub mod Permission
 pub mod PermissionSchedules
 pub mod Revocation
 pub mod RevocationSchedules
-pub mod ScheduleLaws
 pub mod Windows
 pub mod Common
 pub mod Arriving

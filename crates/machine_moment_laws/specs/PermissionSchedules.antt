@@ -8,8 +8,8 @@ use Rattle.schedule_script.specs.ConfigCheck.Checked.{Checked}
 use Rattle.schedule_script.specs.declared.answer.Answer.TheVariants.{Traced}
 use Rattle.schedule_script.specs.declared.tied_answer.TiedAnswer.{TiedAnswer}
 use Rattle.schedule_script.specs.declared.tied_answer.TiedAnswer.TheVariants.{Answered}
-use Rattle.schedule_laws.specs.Isolated.{StandsAt}
-use Rattle.schedule_laws.specs.Runs.{configs_so_far}
+use Rattle.machine_moment_laws.specs.Isolated.{StandsAt}
+use Rattle.machine_moment_laws.specs.Runs.{configs_so_far}
 use Rattle.machine_moment_laws.specs.Permission.{PassesAsPermitted}
 
 -- where an event is the trace of a packet, this is said of the packet and of the outcome that is answered

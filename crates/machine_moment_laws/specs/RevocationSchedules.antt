@@ -10,8 +10,8 @@ use Rattle.schedule_script.specs.declared.tied_answer.TiedAnswer.{TiedAnswer}
 use Rattle.schedule_script.specs.declared.tied_answer.TiedAnswer.TheVariants.{Answered}
 use Rattle.machine_model.specs.Events.{event_of}
 use Rattle.machine_model.specs.Rounds.{is_unbroken}
-use Rattle.schedule_laws.specs.Isolated.{StandsAt}
-use Rattle.schedule_laws.specs.Runs.{tied_moment}
+use Rattle.machine_moment_laws.specs.Isolated.{StandsAt}
+use Rattle.machine_moment_laws.specs.Runs.{tied_moment}
 use Rattle.machine_moment_laws.specs.Revocation.{DropsIfRefused, HasTwoRounds}
 
 -- a fact of what becomes of a packet, where the answer says it

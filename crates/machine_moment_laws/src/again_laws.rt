@@ -8,7 +8,7 @@ ghost use Rattle.config_types.specs.declared.event.Event.{Event};
 ghost use Rattle.schedule_script.specs.ConfigCheck.Checked.{Checked};
 ghost use Rattle.machine_model.specs.Setup.{opening};
 ghost use Rattle.machine_laws.specs.Headline.{IsWritten};
-ghost use Rattle.schedule_laws.specs.Runs.{answers};
+ghost use Rattle.machine_moment_laws.specs.Runs.{answers};
 ghost use Rattle.machine_moment_laws.specs.Recovery.{AtMomentsSince};
 ghost use Rattle.machine_moment_laws.specs.Again.{KeptAreDeliveredAgain, OneDeliversAgain};
 ghost use Rattle.machine_moment_laws.specs.AgainSchedules.{IsAgainThroughout};

@@ -15,7 +15,7 @@ ghost use Rattle.schedule_script.specs.ConfigCheck.Edits.{chain_name, network_na
 ghost use Rattle.schedule_script.specs.ConfigCheck.Edits.{edit_fault, edited};
 ghost use Rattle.machine_model.specs.Setup.{opening};
 ghost use Rattle.machine_laws.specs.Headline.{IsWritten};
-ghost use Rattle.schedule_laws.specs.Runs.{answers};
+ghost use Rattle.machine_moment_laws.specs.Runs.{answers};
 ghost use Rattle.machine_moment_laws.specs.Windows.{AtMomentsOfWindows};
 ghost use Rattle.machine_moment_laws.specs.Kept.{DeleteInterruptsNothing, GoesByEither, HasOneAddress};
 ghost use Rattle.machine_moment_laws.specs.Kept.{HitlessInterruptsNothing, KeptAreDelivered, KeptInOneEdit};

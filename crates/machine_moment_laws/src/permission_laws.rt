@@ -15,7 +15,7 @@ ghost use Rattle.schedule_script.specs.ConfigCheck.Checked.{Checked};
 ghost use Rattle.machine_model.specs.Setup.{opening};
 ghost use Rattle.machine_laws.specs.Headline.{IsWritten};
 ghost use Rattle.machine_laws.specs.Refusing.{AtMomentsWithTies};
-ghost use Rattle.schedule_laws.specs.Runs.{answers};
+ghost use Rattle.machine_moment_laws.specs.Runs.{answers};
 ghost use Rattle.machine_moment_laws.specs.Permission.{DeliversAsPermitted, HeadsTo, IsLedOn, IsPermitted};
 ghost use Rattle.machine_moment_laws.specs.Permission.{IsPermittedSomehow, KeptServices, OfEachPacket, WasPermitted};
 ghost use Rattle.machine_moment_laws.specs.PermissionSchedules.{IsPermittedThroughout};

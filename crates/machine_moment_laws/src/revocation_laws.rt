@@ -9,7 +9,7 @@ ghost use Rattle.schedule_script.specs.ConfigCheck.Checked.{Checked};
 ghost use Rattle.machine_model.specs.Moments.{WhereLaidOut};
 ghost use Rattle.machine_model.specs.Setup.{opening};
 ghost use Rattle.machine_laws.specs.Headline.{AfterAnySchedule, IsWritten};
-ghost use Rattle.schedule_laws.specs.Runs.{answers};
+ghost use Rattle.machine_moment_laws.specs.Runs.{answers};
 ghost use Rattle.machine_moment_laws.specs.Revocation.{AllTellSlices, FeedsInOne, RefusesInTwo, RefusesSoonAfter, RevokesInTwo, SlicesInTwo};
 ghost use Rattle.machine_moment_laws.specs.RevocationSchedules.{IsRevoked};
 

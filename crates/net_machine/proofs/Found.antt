@@ -25,7 +25,7 @@ use Rattle.running_nodes.specs.RunningModel.Seats.{Configuring, Seat, Who, seat}
 use Rattle.running_laws.specs.Editing.{MakesEdit}
 use Rattle.schedule_script.specs.declared.answer.Answer.TheVariants.{Did, EditRefused}
 use Rattle.schedule_script.specs.declared.tied_answer.TiedAnswer.TheVariants.{Answered, EditTied}
-use Rattle.machine_moment_laws.specs.ScheduleLaws.Runs.{broken_by}
+use Rattle.machine_moment_laws.specs.Runs.{broken_by}
 use Rattle.net_machine.specs.declared.ends.SessionEnds.{SessionEnds}
 use Rattle.net_machine.specs.declared.tying.Found.{Found}
 use Rattle.net_machine.specs.declared.tying.Found.TheVariants.{Made, Faulty, Tied}

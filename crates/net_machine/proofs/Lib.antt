@@ -32,7 +32,6 @@ pub mod Asked
 pub mod CanMove
 pub mod Ran
 pub mod ControlNodes
-pub mod ScheduleLaws
 pub mod RunningLaws
 pub mod RunningModel
 pub mod MachineLaws

@@ -22,7 +22,7 @@ use Rattle.running_nodes.specs.RunningModel.Stands.{message_size}
 use Rattle.schedule_script.specs.declared.answer.Answer.{Answer}
 use Rattle.schedule_script.specs.declared.tied_answer.TiedAnswer.{TiedAnswer}
 use Rattle.schedule_script.specs.declared.tied_answer.TiedAnswer.TheVariants.{Answered, EditTied}
-use Rattle.machine_moment_laws.specs.ScheduleLaws.Runs.{answer_tied, tie_broken, unless_tied}
+use Rattle.machine_moment_laws.specs.Runs.{answer_tied, tie_broken, unless_tied}
 use Rattle.net_machine.specs.declared.ends.SessionEnds.{SessionEnds}
 use Rattle.net_machine.specs.Seating.{Keeps, order_among, order_of}
 use Rattle.net_machine.specs.Tying.{Orders, OrdersAs, moved_by}

@@ -30,8 +30,8 @@ use Rattle.running_nodes.specs.RunningModel.Steps.{fresh_seat}
 use Rattle.running_laws.proofs.Given.{given}
 use Rattle.running_laws.proofs.Started.{fresh_seats_stand}
 use Rattle.schedule_script.specs.declared.tied_answer.TiedAnswer.{TiedAnswer}
-use Rattle.machine_moment_laws.specs.ScheduleLaws.TiedCompiled.{EndsAtOnce, IsAsCompiled}
-use Rattle.machine_moment_laws.specs.ScheduleLaws.Isolated.{DeliversSoFar, DeliversTied}
+use Rattle.machine_moment_laws.specs.TiedCompiled.{EndsAtOnce, IsAsCompiled}
+use Rattle.machine_moment_laws.specs.Isolated.{DeliversSoFar, DeliversTied}
 use Rattle.machine_moment_laws.specs.RevocationSchedules.{RevokedSoFar}
 use Rattle.machine_moment_laws.proofs.RevocationPlaced.{revoked_here}
 use Rattle.machine_moment_laws.specs.PermissionSchedules.{PermittedSoFar}
@@ -40,9 +40,9 @@ use Rattle.machine_moment_laws.specs.KeptSchedules.{KeptSoFar}
 use Rattle.machine_moment_laws.proofs.KeptPlaced.{uninterrupted_here}
 use Rattle.machine_moment_laws.specs.AgainSchedules.{AgainSoFar}
 use Rattle.machine_moment_laws.proofs.AgainPlaced.{again_here}
-use Rattle.machine_moment_laws.specs.ScheduleLaws.Runs.{answer_tied, tied_moment}
-use Rattle.machine_moment_laws.proofs.ScheduleLaws.Kept.{asked_with_ties, tied_more}
-use Rattle.machine_moment_laws.proofs.ScheduleLaws.Moments.{compiled_here, ends_here, isolated_here, joined_here}
+use Rattle.machine_moment_laws.specs.Runs.{answer_tied, tied_moment}
+use Rattle.machine_moment_laws.proofs.TiesKept.{asked_with_ties, tied_more}
+use Rattle.machine_moment_laws.proofs.TiedMoments.{compiled_here, ends_here, isolated_here, joined_here}
 use Rattle.net_machine.specs.declared.ends.SessionEnds.{SessionEnds}
 use Rattle.net_machine.specs.Running.{IsRunning}
 use Rattle.net_machine.specs.Seating.{AreLong, AreSeated, IsConfigured, ends_of, order_among, order_of}

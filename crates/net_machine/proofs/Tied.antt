@@ -21,8 +21,8 @@ use Rattle.running_nodes.specs.RunningModel.Stands.{StandsFor, message_size}
 use Rattle.running_laws.specs.Moments.{IsMoment}
 use Rattle.schedule_script.specs.declared.tied_answer.TiedAnswer.{TiedAnswer}
 use Rattle.schedule_script.specs.declared.tied_answer.TiedAnswer.TheVariants.{Answered, EditTied}
-use Rattle.machine_moment_laws.specs.ScheduleLaws.Runs.{answer_tied, broken_by, tie_broken, unless_tied}
-use Rattle.machine_moment_laws.proofs.ScheduleLaws.Kept.{refused_is}
+use Rattle.machine_moment_laws.specs.Runs.{answer_tied, broken_by, tie_broken, unless_tied}
+use Rattle.machine_moment_laws.proofs.TiesKept.{refused_is}
 use Rattle.net_machine.specs.declared.ends.SessionEnds.{SessionEnds}
 use Rattle.net_machine.specs.Seating.{order_among}
 use Rattle.net_machine.specs.Tying.{HappensTied, OfTie, broken_at, ties_then}

@@ -15,8 +15,7 @@ pub mod Shown
 pub mod Running
 pub mod Codes
 pub mod Looking
-pub use Rattle.machine_moment_laws.specs.ScheduleLaws.Runs
-pub mod ScheduleLaws
+pub use Rattle.machine_moment_laws.specs.Runs
 pub mod RunningLaws
 pub mod RunningModel
 pub mod MachineLaws

@@ -4,7 +4,7 @@ use Rattle.config_check.specs.Checked.{Checked}
 use Rattle.config_types.specs.declared.event.Event.{Event}
 use Rattle.schedule_script.specs.Kept.{AreAlike, ties_in}
 use Rattle.running_nodes.specs.RunningModel.Stands.{StandsFor}
-use Rattle.machine_moment_laws.specs.ScheduleLaws.Runs.{tied_moment}
+use Rattle.machine_moment_laws.specs.Runs.{tied_moment}
 use Rattle.net_machine.specs.NetState.{NetState}
 
 -- a network with this opening configuration took these events, and is in the state that they lead to, with its ties

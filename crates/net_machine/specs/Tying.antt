@@ -17,7 +17,7 @@ use Rattle.running_nodes.specs.RunningModel.Seats.{Configuring, Seat, seat}
 use Rattle.schedule_script.specs.declared.answer.Answer.TheVariants.{Did}
 use Rattle.schedule_script.specs.declared.tied_answer.TiedAnswer.{TiedAnswer}
 use Rattle.schedule_script.specs.declared.tied_answer.TiedAnswer.TheVariants.{Answered, EditTied}
-use Rattle.machine_moment_laws.specs.ScheduleLaws.Runs.{broken_by}
+use Rattle.machine_moment_laws.specs.Runs.{broken_by}
 use Rattle.net_machine.specs.declared.ends.SessionEnds.{SessionEnds}
 use Rattle.net_machine.specs.declared.editing.Moved.{Moved}
 use Rattle.net_machine.specs.declared.editing.Moved.TheVariants.{Yes, No}

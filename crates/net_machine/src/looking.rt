@@ -3,7 +3,7 @@ ghost use Rattle.std.specs.Prelude.{◌≡◌, false, is_some, option_copied, If
 ghost use Rattle.running_nodes.specs.ControlNode.Core.{holdings};
 ghost use Rattle.running_nodes.specs.Cores.{present};
 ghost use Rattle.node_laws.specs.Quiet.{SameButQuiet};
-ghost use Rattle.machine_moment_laws.specs.ScheduleLaws.Runs.{tied_moment};
+ghost use Rattle.machine_moment_laws.specs.Runs.{tied_moment};
 ghost use Rattle.net_machine.specs.Looking.{held_at, is_control_node};
 
 use crate::net::Net;

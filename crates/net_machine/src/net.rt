@@ -13,13 +13,13 @@ ghost use Rattle.running_nodes.specs.RunningModel.Seats.{whos};
 ghost use Rattle.running_nodes.specs.RunningModel.Stands.{StandsFor, message_size};
 ghost use Rattle.running_nodes.specs.RunningModel.Steps.{fresh_seat};
 ghost use Rattle.schedule_script.specs.Answers.{OfAnswer};
-ghost use Rattle.machine_moment_laws.specs.ScheduleLaws.TiedCompiled.{EndsAtOnce, IsAsCompiled};
-ghost use Rattle.machine_moment_laws.specs.ScheduleLaws.Isolated.{DeliversSoFar, DeliversTied};
+ghost use Rattle.machine_moment_laws.specs.TiedCompiled.{EndsAtOnce, IsAsCompiled};
+ghost use Rattle.machine_moment_laws.specs.Isolated.{DeliversSoFar, DeliversTied};
 ghost use Rattle.machine_moment_laws.specs.RevocationSchedules.{RevokedSoFar};
 ghost use Rattle.machine_moment_laws.specs.PermissionSchedules.{PermittedSoFar};
 ghost use Rattle.machine_moment_laws.specs.KeptSchedules.{KeptSoFar};
 ghost use Rattle.machine_moment_laws.specs.AgainSchedules.{AgainSoFar};
-ghost use Rattle.machine_moment_laws.specs.ScheduleLaws.Runs.{answer_tied, tied_moment};
+ghost use Rattle.machine_moment_laws.specs.Runs.{answer_tied, tied_moment};
 ghost use Rattle.net_machine.specs.Shown.{ShowsCompiled};
 ghost use Rattle.net_machine.specs.Tying.{OfTie};
 

@@ -18,10 +18,10 @@ use Rattle.machine_model.specs.Steps.{is_settled}
 use Rattle.machine_model.specs.Events.{forwarders, next}
 use Rattle.machine_model.specs.Setup.{opening as opening_setup}
 use Rattle.net_machine.specs.MachineLaws.Headline.{IsWritten}
-use Rattle.net_machine.proofs.ScheduleLaws.AsCompiled.{forms_of_front}
-use Rattle.net_machine.specs.ScheduleLaws.Runs.{tied_moment}
-use Rattle.net_machine.proofs.ScheduleLaws.Kept.{tied_more}
-use Rattle.net_machine.proofs.ScheduleLaws.Moments.{compiled_here, ends_here}
+use Rattle.net_machine.proofs.MachineMomentLaws.AsCompiled.{forms_of_front}
+use Rattle.net_machine.specs.MachineMomentLaws.Runs.{tied_moment}
+use Rattle.net_machine.proofs.MachineMomentLaws.TiesKept.{tied_more}
+use Rattle.net_machine.proofs.MachineMomentLaws.TiedMoments.{compiled_here, ends_here}
 use Rattle.scenario_gen.specs.Scenario.{scenario}
 use Rattle.scenario_gen.specs.Schedule.{events, packets}
 use Rattle.scenario_gen.proofs.NodeForms.{topology_has_form}

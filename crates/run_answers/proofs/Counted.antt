@@ -26,7 +26,7 @@ use Rattle.machine_model.specs.Events.{edit_answer, event_of, forwarders, is_nod
 use Rattle.net_machine.specs.RunningModel.Stands.{message_size}
 use Rattle.schedule_script.specs.declared.tied_answer.TiedAnswer.{TiedAnswer}
 use Rattle.schedule_script.specs.declared.tied_answer.TiedAnswer.TheVariants.{Answered}
-use Rattle.net_machine.specs.ScheduleLaws.Runs.{answer_tied, answers, run_tied, tie_broken, unless_tied}
+use Rattle.net_machine.specs.MachineMomentLaws.Runs.{answer_tied, answers, run_tied, tie_broken, unless_tied}
 use Rattle.run_answers.specs.declared.tally.Tally.{Tally}
 use Rattle.run_answers.specs.Counts.{CountsAnswers, is_delivery, is_trace, rounds_of}
 use Rattle.run_answers.specs.Tallies.{counted, is_delivered, nothing, one_if, same_outcome, tally, tally_from}

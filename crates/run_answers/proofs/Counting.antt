@@ -14,8 +14,8 @@ use Rattle.machine_model.specs.Setup.{checked}
 use Rattle.net_machine.specs.RunningModel.Stands.{message_size}
 use Rattle.schedule_script.specs.declared.tied_answer.TiedAnswer.{TiedAnswer}
 use Rattle.schedule_script.specs.declared.tied_answer.TiedAnswer.TheVariants.{Answered, EditTied}
-use Rattle.net_machine.specs.ScheduleLaws.Runs.{answer_tied, tied_moment}
-use Rattle.net_machine.proofs.ScheduleLaws.Kept.{tied_more}
+use Rattle.net_machine.specs.MachineMomentLaws.Runs.{answer_tied, tied_moment}
+use Rattle.net_machine.proofs.MachineMomentLaws.TiesKept.{tied_more}
 use Rattle.run_answers.specs.declared.tally.Tally.{Tally}
 use Rattle.run_answers.specs.Tallies.{counted, is_delivered, nothing, one_if, same_outcome, settled, tally, tally_from, traced}
 use Rattle.run_answers.proofs.Sameness.{outcome_self}

@@ -15,7 +15,7 @@ use Rattle.compile_answers.proofs.NothingLeft.{leaves_none, promises_none}
 use Rattle.net_machine.specs.MachineLaws.Headline.{IsWritten}
 use Rattle.net_machine.specs.NetState.{NetState}
 use Rattle.net_machine.specs.Taken.{HasTaken}
-use Rattle.net_machine.proofs.ScheduleLaws.Placed.{as_compiled, isolated}
+use Rattle.net_machine.proofs.MachineMomentLaws.SchedulePlaced.{as_compiled, isolated}
 use Rattle.machine_model.specs.Setup.{opening as opening_setup}
 use Rattle.net_machine.proofs.MachineMomentLaws.KeptPlaced.{uninterrupted}
 use Rattle.net_machine.proofs.MachineMomentLaws.AgainPlaced.{again}

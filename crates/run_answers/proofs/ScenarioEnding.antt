@@ -14,8 +14,8 @@ use Rattle.compile_answers.specs.declared.unfit.Reception.TheVariants.{Good}
 use Rattle.compile_answers.specs.Leaving.{PromisedOn}
 use Rattle.net_machine.specs.NetState.{NetState}
 use Rattle.net_machine.specs.RunningModel.Stands.{StandsFor}
-use Rattle.net_machine.specs.ScheduleLaws.Runs.{tied_moment}
-use Rattle.net_machine.proofs.ScheduleLaws.Placed.{as_compiled, isolated}
+use Rattle.net_machine.specs.MachineMomentLaws.Runs.{tied_moment}
+use Rattle.net_machine.proofs.MachineMomentLaws.SchedulePlaced.{as_compiled, isolated}
 use Rattle.schedule_script.specs.Kept.{AreAlike, ties_in}
 use Rattle.net_machine.proofs.MachineMomentLaws.KeptPlaced.{uninterrupted}
 use Rattle.net_machine.proofs.MachineMomentLaws.AgainPlaced.{again}

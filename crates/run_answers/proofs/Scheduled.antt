@@ -9,7 +9,7 @@ use Rattle.net_machine.specs.RunningModel.Stands.{message_size}
 use Rattle.ov_io.specs.Inputs.{TookFront}
 use Rattle.ov_io.specs.Pieces.{IsOnItsWay}
 use Rattle.report.specs.Answers.{tied_answer_lines}
-use Rattle.net_machine.specs.ScheduleLaws.Runs.{answer_tied, run_tied, tied_moment}
+use Rattle.net_machine.specs.MachineMomentLaws.Runs.{answer_tied, run_tied, tied_moment}
 use Rattle.run_answers.specs.Schedules.{lines_from, run_text}
 use Rattle.compile_answers.proofs.Ways.{front_first, front_then, way_then}
 

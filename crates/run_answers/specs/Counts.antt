@@ -13,8 +13,8 @@ use Rattle.reach_plain.specs.Reachability.{reachability}
 use Rattle.schedule_script.specs.declared.answer.Answer.TheVariants.{Rounds, Traced}
 use Rattle.schedule_script.specs.declared.tied_answer.TiedAnswer.{TiedAnswer}
 use Rattle.schedule_script.specs.declared.tied_answer.TiedAnswer.TheVariants.{Answered}
-use Rattle.net_machine.specs.ScheduleLaws.Isolated.{StandsAt}
-use Rattle.net_machine.specs.ScheduleLaws.Runs.{answers, tied_moment}
+use Rattle.net_machine.specs.MachineMomentLaws.Isolated.{StandsAt}
+use Rattle.net_machine.specs.MachineMomentLaws.Runs.{answers, tied_moment}
 use Rattle.run_answers.specs.declared.tally.Tally.{Tally}
 
 abbrev pub is_trace : Event → Bool

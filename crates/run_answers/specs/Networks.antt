@@ -12,9 +12,9 @@ use Rattle.config_model.specs.Event.{run_at}
 use Rattle.net_machine.specs.NetState.{NetState}
 use Rattle.net_machine.specs.Taken.{HasTaken}
 use Rattle.ov_json.specs.Json.{json_of}
-use Rattle.net_machine.specs.ScheduleLaws.TiedCompiled.{AreAsCompiled}
-use Rattle.net_machine.specs.ScheduleLaws.Isolated.{IsIsolated}
-use Rattle.net_machine.specs.ScheduleLaws.Runs.{answers}
+use Rattle.net_machine.specs.MachineMomentLaws.TiedCompiled.{AreAsCompiled}
+use Rattle.net_machine.specs.MachineMomentLaws.Isolated.{IsIsolated}
+use Rattle.net_machine.specs.MachineMomentLaws.Runs.{answers}
 use Rattle.net_machine.specs.MachineMomentLaws.KeptSchedules.{IsKeptThroughout}
 use Rattle.net_machine.specs.MachineMomentLaws.AgainSchedules.{IsAgainThroughout}
 use Rattle.net_machine.specs.MachineMomentLaws.PermissionSchedules.{IsPermittedThroughout}

@@ -8,9 +8,9 @@ use Rattle.compile_answers.specs.Answers.{DocumentAnswer, answer_checked}
 use Rattle.scenario_gen.specs.Scenario.{scenario}
 use Rattle.net_machine.specs.NetState.{NetState}
 use Rattle.net_machine.specs.Taken.{HasTaken}
-use Rattle.net_machine.specs.ScheduleLaws.TiedCompiled.{AreAsCompiled}
-use Rattle.net_machine.specs.ScheduleLaws.Isolated.{IsIsolated}
-use Rattle.net_machine.specs.ScheduleLaws.Runs.{answers}
+use Rattle.net_machine.specs.MachineMomentLaws.TiedCompiled.{AreAsCompiled}
+use Rattle.net_machine.specs.MachineMomentLaws.Isolated.{IsIsolated}
+use Rattle.net_machine.specs.MachineMomentLaws.Runs.{answers}
 use Rattle.net_machine.specs.MachineMomentLaws.KeptSchedules.{IsKeptThroughout}
 use Rattle.net_machine.specs.MachineMomentLaws.AgainSchedules.{IsAgainThroughout}
 use Rattle.net_machine.specs.MachineMomentLaws.PermissionSchedules.{IsPermittedThroughout}

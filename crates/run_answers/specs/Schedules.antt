@@ -4,7 +4,7 @@ use Rattle.config_types.specs.declared.event.Event.{Event}
 use Rattle.config_check.specs.Checked.{Checked}
 use Rattle.report.specs.Answers.{tied_answer_lines}
 use Rattle.schedule_script.specs.declared.tied_answer.TiedAnswer.{TiedAnswer}
-use Rattle.net_machine.specs.ScheduleLaws.Runs.{answers}
+use Rattle.net_machine.specs.MachineMomentLaws.Runs.{answers}
 
 -- the lines of events and their answers, the first with a number
 abbrev pub lines_from : ℕ → List Event → List TiedAnswer → List ℕ

@@ -19,7 +19,7 @@ use Rattle.machine_model.specs.Setup.{checked}
 use Rattle.net_machine.specs.RunningModel.Stands.{message_size}
 use Rattle.schedule_script.specs.declared.tied_answer.TiedAnswer.{TiedAnswer}
 use Rattle.schedule_script.specs.declared.tied_answer.TiedAnswer.TheVariants.{Answered}
-use Rattle.net_machine.specs.ScheduleLaws.Runs.{answer_tied}
+use Rattle.net_machine.specs.MachineMomentLaws.Runs.{answer_tied}
 use Rattle.run_answers.specs.declared.tally.Tally.{Tally}
 
 -- ---- outcomes that are one

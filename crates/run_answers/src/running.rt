@@ -13,7 +13,7 @@ ghost use Rattle.machine_model.specs.Setup.{opening};
 ghost use Rattle.ov_io.specs.Inputs.{TookFront};
 ghost use Rattle.ov_io.specs.Pieces.{HasWriteCause, IsOnItsWay};
 ghost use Rattle.report.specs.Answers.{tied_answer_lines};
-ghost use Rattle.net_machine.specs.ScheduleLaws.Runs.{answer_tied, tied_moment};
+ghost use Rattle.net_machine.specs.MachineMomentLaws.Runs.{answer_tied, tied_moment};
 ghost use Rattle.compile_answers.specs.Answers.{IsAnswered, WasGiven, answer_good};
 ghost use Rattle.compile_answers.specs.Leaving.{LeftOn, PromisedOn};
 ghost use Rattle.run_answers.specs.Answers.{run_answer, run_value};

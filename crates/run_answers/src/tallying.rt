@@ -6,7 +6,7 @@ ghost use Rattle.schedule_script.specs.Kept.{AreAlike, ties_in};
 ghost use Rattle.net_machine.specs.RunningModel.Stands.{StandsFor};
 ghost use Rattle.machine_model.specs.Events.{event_of};
 ghost use Rattle.machine_model.specs.Setup.{checked};
-ghost use Rattle.net_machine.specs.ScheduleLaws.Runs.{answer_tied, tied_moment};
+ghost use Rattle.net_machine.specs.MachineMomentLaws.Runs.{answer_tied, tied_moment};
 ghost use Rattle.run_answers.specs.Tallies.{counted, tally};
 
 use crate::tally::Tally;

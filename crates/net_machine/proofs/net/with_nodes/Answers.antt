@@ -1,5 +1,5 @@
 use Rattle.std.proofs.Common.{◌∙◌, ap}
-use Rattle.machine_moment_laws.proofs.ScheduleLaws.Moments.{tied_rounds}
+use Rattle.machine_moment_laws.proofs.TiedMoments.{tied_rounds}
 use Rattle.net_machine.specs.Seating.{order_of}
 use Rattle.net_machine.proofs.Ran.{start_long, start_runs}
 use Rattle.net_machine.proofs.net.with_nodes.Goals as goal

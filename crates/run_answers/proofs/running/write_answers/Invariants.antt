@@ -2,7 +2,7 @@ use Rattle.std.proofs.Common.{◌≡◌, ◌++◌, [], false}
 use Rattle.schedule_script.specs.Kept.{AreAlike, ties_in}
 use Rattle.net_machine.specs.RunningModel.Stands.{StandsFor}
 use Rattle.ov_io.specs.Pieces.{IsOnItsWay}
-use Rattle.net_machine.specs.ScheduleLaws.Runs.{tied_moment}
+use Rattle.net_machine.specs.MachineMomentLaws.Runs.{tied_moment}
 use Rattle.run_answers.specs.Schedules.{run_text}
 use Rattle.run_answers.proofs.running.write_answers.Given as goal
 

@@ -1,7 +1,7 @@
 use Rattle.std.proofs.Common.{◌∙◌, ◌++◌, ◌∷◌, [], ap}
 use Rattle.machine_model.specs.Events.{event_of}
 use Rattle.machine_model.specs.Setup.{checked}
-use Rattle.net_machine.specs.ScheduleLaws.Runs.{answer_tied, tied_moment}
+use Rattle.net_machine.specs.MachineMomentLaws.Runs.{answer_tied, tied_moment}
 use Rattle.net_machine.proofs.Taking.{one_by_one}
 use Rattle.run_answers.proofs.Counting.{counted_on, few_on}
 use Rattle.run_answers.proofs.tallying.count_all.Goals as goal

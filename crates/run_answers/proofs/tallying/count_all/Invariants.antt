@@ -1,7 +1,7 @@
 use Rattle.std.proofs.Common.{◌≡◌, ◌++◌, length, false}
 use Rattle.schedule_script.specs.Kept.{AreAlike, ties_in}
 use Rattle.net_machine.specs.RunningModel.Stands.{StandsFor}
-use Rattle.net_machine.specs.ScheduleLaws.Runs.{tied_moment}
+use Rattle.net_machine.specs.MachineMomentLaws.Runs.{tied_moment}
 use Rattle.run_answers.specs.Tallies.{tally}
 use Rattle.run_answers.proofs.Counting.{IsFew}
 use Rattle.run_answers.proofs.tallying.count_all.Given as goal

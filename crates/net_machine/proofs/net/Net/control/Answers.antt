@@ -1,7 +1,7 @@
 use Rattle.std.specs.Prelude.{◌≡◌, option_copied, IfSome}
 use Rattle.std.proofs.Common.{ap, subst, sym, ◌∙◌}
 use Rattle.node_laws.specs.Quiet.{SameButQuiet}
-use Rattle.machine_moment_laws.specs.ScheduleLaws.Runs.{tied_moment}
+use Rattle.machine_moment_laws.specs.Runs.{tied_moment}
 use Rattle.net_machine.specs.Looking.{held_at, is_control_node}
 use Rattle.net_machine.specs.NetState.{NetState}
 use Rattle.running_nodes.specs.Cores.{present}

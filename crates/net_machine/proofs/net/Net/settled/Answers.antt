@@ -2,7 +2,7 @@ use Rattle.std.proofs.Common.{sym, ◌∙◌, ap, subst}
 use Rattle.std.specs.List.{All}
 use Rattle.running_nodes.specs.MachineModel.Setup.{checked}
 use Rattle.running_nodes.specs.MachineModel.Steps as machine
-use Rattle.machine_moment_laws.specs.ScheduleLaws.Runs.{tied_moment}
+use Rattle.machine_moment_laws.specs.Runs.{tied_moment}
 use Rattle.net_machine.specs.NetState.{NetState}
 use Rattle.net_machine.specs.Seating.{AreSeated}
 use Rattle.net_machine.specs.Settling.{is_settled}

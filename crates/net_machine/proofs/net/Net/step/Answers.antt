@@ -2,14 +2,14 @@ use Rattle.std.proofs.Common.{◌∙◌, ap, subst}
 use Rattle.std.specs.Prelude.{◌≡◌}
 use Rattle.schedule_script.specs.Kept.{ties_in}
 use Rattle.running_nodes.specs.MachineModel.Events.{event_of}
-use Rattle.machine_moment_laws.specs.ScheduleLaws.TiedCompiled.{EndsAtOnce, IsAsCompiled}
-use Rattle.machine_moment_laws.specs.ScheduleLaws.Isolated.{DeliversSoFar, DeliversTied}
+use Rattle.machine_moment_laws.specs.TiedCompiled.{EndsAtOnce, IsAsCompiled}
+use Rattle.machine_moment_laws.specs.Isolated.{DeliversSoFar, DeliversTied}
 use Rattle.machine_moment_laws.specs.RevocationSchedules.{RevokedSoFar}
 use Rattle.machine_moment_laws.specs.PermissionSchedules.{PermittedSoFar}
 use Rattle.machine_moment_laws.specs.KeptSchedules.{KeptSoFar}
 use Rattle.machine_moment_laws.specs.AgainSchedules.{AgainSoFar}
-use Rattle.machine_moment_laws.specs.ScheduleLaws.Runs.{answer_tied, tied_moment}
-use Rattle.machine_moment_laws.proofs.ScheduleLaws.Moments.{tied_rounds}
+use Rattle.machine_moment_laws.specs.Runs.{answer_tied, tied_moment}
+use Rattle.machine_moment_laws.proofs.TiedMoments.{tied_rounds}
 use Rattle.net_machine.specs.NetState.{NetState}
 use Rattle.net_machine.specs.Tying.{OfTie}
 use Rattle.net_machine.proofs.Ran.{run_can, run_configured, run_seated, step_answers, step_compiled, step_ends, step_isolated, step_revoked}

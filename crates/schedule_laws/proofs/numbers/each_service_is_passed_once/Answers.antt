@@ -1,5 +1,0 @@
-use Rattle.schedule_laws.proofs.Promising.{passed_once}
-use Rattle.schedule_laws.proofs.numbers.each_service_is_passed_once.Goals as goal
-
-pub returns : goal.returns
-returns c = passed_once

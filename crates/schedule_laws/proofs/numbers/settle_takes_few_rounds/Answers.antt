@@ -1,5 +1,0 @@
-use Rattle.schedule_laws.proofs.Promising.{few_rounds}
-use Rattle.schedule_laws.proofs.numbers.settle_takes_few_rounds.Goals as goal
-
-pub returns : goal.returns
-returns c = few_rounds

@@ -1,4 +1,0 @@
-use Rattle.schedule_laws.proofs.numbers.settled_answers_are_compiled.Goals as goal
-
-pub returns : goal.returns
-returns c = λ x es answered compiled place e a stands settled. compiled.settled place e a stands settled

@@ -1,5 +1,0 @@
-use Rattle.schedule_laws.proofs.Kept.{refused_is}
-use Rattle.schedule_laws.proofs.tied_laws.ties_are_answered_where_edits_are_refused.Goals as goal
-
-pub returns : goal.returns
-returns c = refused_is
