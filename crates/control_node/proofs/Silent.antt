@@ -15,7 +15,7 @@ use Rattle.vpn_tables.specs.Listing.{told_in}
 use Rattle.vpn_tables.proofs.AgentsIndexed.{told_apart}
 use Rattle.vpn_tables.specs.NodeLaws.Quiet.{IsWithoutSilent, PublishesNothing, SameButSilent}
 use Rattle.vpn_tables.proofs.NodeLaws.Quiet.{silent_by_agent, silent_by_peers, told_nothing}
-use Rattle.control_marks.specs.Marks.{IsCleanItem, Marks}
+use Rattle.control_wants.specs.Marks.{IsCleanItem, Marks}
 use Rattle.control_node.specs.Ends.{seat, seats}
 use Rattle.control_node.specs.Made.{new_agent}
 use Rattle.control_node.specs.Planning.{agent_sends}

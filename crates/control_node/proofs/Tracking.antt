@@ -14,8 +14,8 @@ use Rattle.node_core.specs.NodeModel.Paths.{Holdings}
 use Rattle.node_core.specs.NodeModel.Wants.{wanted_by_peers}
 use Rattle.vpn_tables.specs.Listing.{told_in}
 use Rattle.vpn_tables.specs.Views.{peer_of}
-use Rattle.control_marks.specs.Marks.{Covers, IsWithin, Marks}
-use Rattle.control_marks.proofs.Growing.{within_itself, within_then}
+use Rattle.control_wants.specs.Marks.{Covers, IsWithin, Marks}
+use Rattle.control_wants.proofs.Growing.{within_itself, within_then}
 use Rattle.control_node.specs.Planning.{AreAgentsTold, ArePeersTold, IsAgentTold, IsPeerTold, agent_sends, peer_sends, wanted_on}
 use Rattle.control_node.specs.Tracking.{AreAgentsTracked, AreMarked, IsAgentTracked, IsPeerTracked, Tracks}
 use Rattle.control_node.specs.declared.ends.AgentEnd.{AgentEnd}

@@ -6,8 +6,8 @@ use Rattle.item_wire.specs.Happenings.{SessionFields}
 use Rattle.node_core.specs.Told.{down_of}
 use Rattle.node_core.specs.NodeModel.Paths.{Holdings}
 use Rattle.vpn_tables.specs.Views.{peer_of}
-use Rattle.control_marks.specs.Marks.{Covered, IsWithin, Marks}
-use Rattle.control_marks.specs.Wanted.{IsSentToAgent, IsSentToPeer}
+use Rattle.control_wants.specs.Marks.{Covered, IsWithin, Marks}
+use Rattle.control_wants.specs.Wanted.{IsSentToAgent, IsSentToPeer}
 use Rattle.control_node.specs.Ends.{AreEnds}
 use Rattle.control_node.specs.Planning.{agent_sends, peer_sends}
 use Rattle.control_node.specs.declared.ends.AgentEnd.{AgentEnd}

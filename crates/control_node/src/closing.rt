@@ -9,7 +9,7 @@ ghost use Rattle.control_node.specs.Places.{IsPlace};
 ghost use Rattle.control_node.specs.Ends.{closed_peer, closed_agent};
 
 use crate::ends::{AgentEnd, ControlEnds, PeerEnd};
-use control_marks::Dirty;
+use control_wants::Dirty;
 use item_wire::ItemSession;
 use vpn_tables::VpnTables;
 

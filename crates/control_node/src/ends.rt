@@ -13,7 +13,7 @@ use crate::closing::{EndPlace, place_of};
 use crate::looking::{item_end, peer_end};
 use crate::planning::plan_marked;
 use bgp_session::{Session, State};
-use control_marks::Dirty;
+use control_wants::Dirty;
 use item_wire::{ItemSession, ItemState};
 use node_core::{EndState, Ends, Plan, Started};
 use ov_link::Input;

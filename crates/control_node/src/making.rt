@@ -7,7 +7,7 @@ ghost use Rattle.control_node.specs.Made.{new_agent, new_ends, new_peer, none_to
 use crate::ends::{AgentEnd, ControlEnds, PeerEnd};
 use crate::plan::ControlPlan;
 use bgp_session::Session;
-use control_marks::Dirty;
+use control_wants::Dirty;
 use item_wire::{ItemFrom, ItemSession};
 use node_core::config_name;
 use ov_sync::{Delta, SyncOut};

@@ -21,11 +21,11 @@ ghost use Rattle.control_node.specs.Planning.{
   peer_plan,
 };
 ghost use Rattle.control_node.specs.Tracking.{AreAgentsTracked, IsAgentTracked, IsPeerTracked, Tracks};
-ghost use Rattle.control_marks.specs.Marked.{AreMarkedItems};
-ghost use Rattle.control_marks.specs.Wanted.{AreRoutesWanted};
+ghost use Rattle.control_wants.specs.Marked.{AreMarkedItems};
+ghost use Rattle.control_wants.specs.Wanted.{AreRoutesWanted};
 
 use crate::ends::{AgentEnd, PeerEnd};
-use control_marks::{
+use control_wants::{
     Dirty, MarkedItem, RoutesWanted, items_marked, routes_wanted, tell_agent, tell_peer,
 };
 use node_core::Plan;

@@ -12,7 +12,7 @@ ghost use Rattle.control_node.specs.Stays.{StaysHeld};
 ghost use Rattle.control_node.specs.Taking.{agent_by, changed_by, feed_by, peer_by};
 ghost use Rattle.control_node.specs.Tracking.{AreMarked};
 
-use control_marks::Dirty;
+use control_wants::Dirty;
 use item_wire::Item;
 use node_core::{low_change, up_change};
 use ov_sync::Delta;

@@ -1,5 +1,5 @@
 use Rattle.std.proofs.Common.{ap}
-use Rattle.control_marks.specs.Marks.{Marks}
+use Rattle.control_wants.specs.Marks.{Marks}
 use Rattle.control_node.proofs.Tracking.{tracks-all, tracks-told}
 use Rattle.control_node.proofs.planning.plan_marked.Goals as goal
 

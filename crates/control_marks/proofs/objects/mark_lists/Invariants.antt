@@ -1,9 +1,0 @@
-use Rattle.std.proofs.Common.{take}
-use Rattle.control_marks.specs.Marks.{AreListsMarked, IsWithin}
-use Rattle.control_marks.proofs.objects.mark_lists.Given as goal
-
-abbrev pub invariant-loop-name : goal.invariant-loop-name
-invariant-loop-name l = record {
-  within : IsWithin l.fn.dirty l.dirty;
-  marked : AreListsMarked l.dirty l.from (take l.name-index l.objects);
-}

@@ -1,0 +1,10 @@
+use Rattle.std.proofs.Common.{sym, subst}
+use Rattle.std.specs.declared.option.Option.{Option}
+use Rattle.ov_types.specs.declared.objects.LowValue.{LowValue}
+use Rattle.control_change_laws.specs.Here.{IsListOfPort}
+use Rattle.control_wants.proofs.objects.mark_held.Goals as goal
+
+pub returns-in-Some-clause-marked : goal.returns-in-Some-clause-marked
+returns-in-Some-clause-marked c = λ _ all a k clean l.
+    c.mark_object.ensures.marked all c.args.name.now (sym c.in-Some.ensures.object) a k clean
+    (subst (λ (o : Option LowValue). IsListOfPort c.args.tables.now.feed a.address o k) (sym c.in-Some.ensures.object) l)

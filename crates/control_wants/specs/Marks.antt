@@ -1,0 +1,140 @@
+-- What may have changed of what sessions are to be told, since they were told last.
+use Rattle.std.specs.Prelude.{◌≡◌, ◌==◌, ℕ, List, map, Bool, if◌then◌else◌, true, false, is_some, refl}
+use Rattle.std.specs.declared.option.Option.{Option}
+use Rattle.std.specs.declared.option.Option.TheVariants.{Some, None}
+use Rattle.std.specs.Coded.{Coded, code_by, coded×, coded_bool, coded_list, coded_option}
+use Rattle.std.specs.FinMap.{get}
+use Rattle.ov_sync.specs.Keyed.{map_of}
+use Rattle.ov_types.specs.contracts.keys.DownKey as down_keys
+use Rattle.ov_types.specs.contracts.prefix.Addr as addresses
+use Rattle.ov_types.specs.contracts.vpn.VpnKey as vpn_keys
+use Rattle.ov_types.specs.declared.keys.DownKey.{DownKey}
+use Rattle.ov_types.specs.declared.keys.DownKey.TheVariants as down
+use Rattle.ov_types.specs.Prefix.{Block}
+use Rattle.ov_types.specs.declared.numbers.InstanceId.{InstanceId}
+use Rattle.ov_types.specs.declared.objects.LowKey.{LowKey}
+use Rattle.ov_types.specs.declared.objects.LowKey.TheVariants as key
+use Rattle.ov_types.specs.declared.objects.LowValue.{LowValue}
+use Rattle.ov_types.specs.declared.prefix.Addr.{Addr}
+use Rattle.ov_types.specs.declared.rows.TableRow.{TableRow}
+use Rattle.ov_types.specs.declared.vpn.VpnKey.{VpnKey}
+use Rattle.vpn_tables.specs.NodeModel.Directions.{down_order}
+use Rattle.vpn_tables.specs.NodeModel.Members.{Member}
+use Rattle.vpn_tables.specs.NodeModel.Keys.{Key, Low, Row, Subscribe, Vpn, of_down}
+use Rattle.vpn_tables.specs.NodeModel.Paths.{Holdings, Told}
+use Rattle.vpn_tables.specs.NodeModel.Wants.{wanted_by_peers}
+use Rattle.vpn_tables.specs.Listing.{told_in}
+use Rattle.control_change_laws.specs.Here.{port_here, wanted_on}
+use Rattle.control_wants.specs.declared.whom.Whom.{Whom}
+use Rattle.control_wants.specs.declared.whom.Whom.TheVariants.{Every, Only, Subscribers}
+
+-- ---- of which agents a key is marked
+-- whether an agent subscribed the instance of a row. An object of slices asks for none
+abbrev pub is_subscribed : Told → DownKey → Bool
+is_subscribed a (down.Slice k) = true
+is_subscribed a (down.Route i q) = is_some (get a.map (Subscribe i))
+
+-- whether an agent is among them
+abbrev pub is_of : Told → DownKey → Whom → Bool
+is_of a x Every = true
+is_of a x Subscribers = is_subscribed a x
+is_of a x (Only address) = address.0 == a.address.0
+
+abbrev pub is_marked : Told → DownKey → Option Whom → Bool
+is_marked a x None = false
+is_marked a x (Some whom) = is_of a x whom
+
+-- how they are told apart
+abbrev pub whom_code : Whom → Option (Option Addr)
+whom_code Every = None
+whom_code Subscribers = Some None
+whom_code (Only address) = Some (Some address)
+
+abbrev pub whom_of : Option (Option Addr) → Whom
+whom_of None = Every
+whom_of (Some None) = Subscribers
+whom_of (Some (Some address)) = Only address
+
+pub whom_tells : (whom : Whom) → whom_of (whom_code whom) ≡ whom
+whom_tells Every = refl
+whom_tells Subscribers = refl
+whom_tells (Only address) = refl
+
+abbrev pub coded_whom : Coded Whom
+coded_whom =
+    code_by (Option (Option Addr)) (coded_option (coded_option addresses.the_row.coded)) whom_code whom_of whom_tells
+
+-- ---- marks
+-- everything of every session, or everything of the agents at some addresses, some keys of peers, and some of agents
+pub record Marks : Type 0 where
+  pub all : Bool
+  pub addresses : List Addr
+  pub routes : List VpnKey
+  pub items : List (DownKey × Whom)
+
+-- how they are told apart
+abbrev pub coded_marks : Coded Marks
+coded_marks =
+    code_by (Bool × (List Addr × (List VpnKey × List (DownKey × Whom))))
+    (coded× coded_bool (coded× (coded_list addresses.the_row.coded) (coded× (coded_list vpn_keys.the_row.coded) (coded_list (coded× down_keys.the_row.coded coded_whom)))))
+    (λ d. (d.all, (d.addresses, (d.routes, d.items))))
+    (λ c. record { all = c.0; addresses = c.1.0; routes = c.1.1.0; items = c.1.1.1 }) (λ _. refl)
+
+-- the network of a port, where it is at this address
+abbrev pub seen_at : Addr → Option (Addr × InstanceId) → Option InstanceId
+seen_at address None = None
+seen_at address (Some port) = if port.0.0 == address.0 then Some port.1 else None
+
+-- where an object that may not be there is a port, and of which network
+abbrev pub IsPort : Option LowValue → Option (Addr × InstanceId) → Type 0
+IsPort object port = (address : Addr) → port_here address object ≡ seen_at address port
+
+-- a key is not marked, of peers, and of an agent
+abbrev pub IsCleanRoute : Marks → Key → Type 0
+IsCleanRoute d k = Member k (map Vpn d.routes) → ⊥
+
+abbrev pub marked_of : Marks → DownKey → Option Whom
+marked_of d key = get (map_of down_order d.items) key
+
+abbrev pub IsCleanItem : Marks → Told → Key → Type 0
+IsCleanItem d a k =
+    (Member a.address d.addresses → ⊥) × ((x : DownKey) → of_down x ≡ k → is_marked a x (marked_of d x) ≡ false)
+
+-- what is marked there is marked here
+pub record IsWithin (d d' : Marks) : Type 0 where
+  pub all : d'.all ≡ false → d.all ≡ false
+  pub routes : (k : Key) → IsCleanRoute d' k → IsCleanRoute d k
+  pub items : (a : Told) (k : Key) → IsCleanItem d' a k → IsCleanItem d a k
+
+-- from the one holdings to the other, what sessions are to be told changes at keys alone that are marked then, and what
+-- was marked of an agent still is, whatever it subscribes
+pub record Covers (d d' : Marks) (h h' : Holdings) : Type 0 where
+  pub addresses : (agent : ℕ) → (told_in h'.agents agent).address ≡ (told_in h.agents agent).address
+  pub peers : (k : Key) → IsCleanRoute d' k → get (wanted_by_peers h) k ≡ get (wanted_by_peers h') k
+  pub agents : (agent : ℕ) (k : Key) → IsCleanItem d' (told_in h'.agents agent) k
+      → get (wanted_on h agent) k ≡ get (wanted_on h' agent) k
+  pub kept : (agent : ℕ) (k : Key) → IsCleanItem d' (told_in h'.agents agent) k → IsCleanItem d (told_in h.agents agent) k
+
+abbrev pub Covered : Marks → Marks → Holdings → Holdings → Type 0
+Covered d d' h h' = d'.all ≡ false → Covers d d' h h'
+
+-- these rows are marked of the agents that subscribe them, and these keys of peers
+abbrev pub AreRowsMarked : Marks → List (InstanceId × Block) → Type 0
+AreRowsMarked d rows =
+    d.all ≡ false → (i : InstanceId) (q : Block) → Member (i, q) rows → (a : Told)
+    → is_some (get a.map (Subscribe i)) ≡ true → IsCleanItem d a (Row i q) → ⊥
+
+abbrev pub AreRoutesMarked : Marks → List VpnKey → Type 0
+AreRoutesMarked d keys = d.all ≡ false → (k : VpnKey) → Member k keys → IsCleanRoute d (Vpn k) → ⊥
+
+-- the rows of an instance with these prefixes are marked of such agents
+abbrev pub AreTableRowsMarked : Marks → Whom → InstanceId → List (Block × TableRow) → Type 0
+AreTableRowsMarked d whom i rows =
+    d.all ≡ false → (q : Block) (r : TableRow) → Member (q, r) rows → (a : Told) → is_of a (down.Route i q) whom ≡ true
+    → IsCleanItem d a (Row i q) → ⊥
+
+-- the access lists from a network among these objects are marked
+abbrev pub AreListsMarked : Marks → ℕ → List (LowKey × LowValue) → Type 0
+AreListsMarked d from objects =
+    d.all ≡ false → (to : ℕ) (v : LowValue) → Member (key.Acl from to, v) objects → (a : Told)
+    → IsCleanItem d a (Low (key.Acl from to)) → ⊥
