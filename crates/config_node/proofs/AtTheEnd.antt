@@ -18,7 +18,7 @@ use Rattle.node_core.proofs.Closing.{never_closed}
 use Rattle.node_laws.specs.Stepped.{AreTold, WantsByHoldings}
 use Rattle.node_laws.proofs.AtTheEnd.{told_where_none_failed}
 use Rattle.config_check.specs.Checked.{Checked}
-use Rattle.transform_record_laws.specs.MachineModel.Network.{config}
+use Rattle.config_node.specs.MachineModel.Network.{config}
 use Rattle.config_node.specs.Beginning.{BeginsKeeping, session_at}
 use Rattle.config_node.specs.Core.{kind}
 

@@ -28,10 +28,10 @@ use Rattle.node_core.specs.NodeModel.Values.{Object, Value}
 use Rattle.node_core.specs.NodeModel.Wants.{slice_entry}
 use Rattle.node_core.proofs.NodeModel.Directions.{low_exact}
 use Rattle.node_core.proofs.NodeModel.Orders.{key_exact, key_total}
-use Rattle.transform_record_laws.specs.MachineModel.Setup.{low_in}
-use Rattle.transform_record_laws.specs.Ports.{attachment, with_entry, with_ports, without_entry}
-use Rattle.transform_record_laws.proofs.Law.{low_fits}
-use Rattle.transform_record_laws.proofs.Ports.{one_for_another}
+use Rattle.config_node.specs.MachineModel.Setup.{low_in}
+use Rattle.config_node.specs.Ports.{attachment, with_entry, with_ports, without_entry}
+use Rattle.config_node.proofs.Law.{low_fits}
+use Rattle.config_node.proofs.Ports.{one_for_another}
 use Rattle.config_node.specs.Changing.{DifferInOne, IsOneChange, SharesAllButPorts, key_change}
 use Rattle.config_node.specs.Ends.{low_order}
 

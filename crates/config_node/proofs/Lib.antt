@@ -1,4 +1,17 @@
 -- Lemmas, in the order in which they stand on each other.
+pub mod Sizes
+pub mod Short
+pub mod Lists
+pub mod Forms
+pub mod Services
+pub mod Few
+pub mod Entries
+pub mod Each
+pub mod Law
+pub mod Between
+pub mod OtherPorts
+pub mod Ports
+pub mod MachineModel
 pub mod Images
 pub mod Changes
 pub mod Turning
@@ -8,5 +21,3 @@ pub mod Begins
 pub mod AtTheEnd
 pub mod Alike
 pub mod Changed
-pub mod TransformRecordLaws
-pub mod MachineModel

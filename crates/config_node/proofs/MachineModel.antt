@@ -1,9 +1,9 @@
 -- What is passed on of `machine_model`, so that the crates above need not list it.
-pub use Rattle.transform_record_laws.proofs.MachineModel.Apart
-pub use Rattle.transform_record_laws.proofs.MachineModel.Changing
-pub use Rattle.transform_record_laws.proofs.MachineModel.Distinct
-pub use Rattle.transform_record_laws.proofs.MachineModel.NetworkFact
-pub use Rattle.transform_record_laws.proofs.MachineModel.NodesFact
-pub use Rattle.transform_record_laws.proofs.MachineModel.SessionFact
-pub use Rattle.transform_record_laws.proofs.MachineModel.Twins
-pub use Rattle.transform_record_laws.proofs.MachineModel.Walk
+pub use Rattle.machine_model.proofs.Apart
+pub use Rattle.machine_model.proofs.Changing
+pub use Rattle.machine_model.proofs.Distinct
+pub use Rattle.machine_model.proofs.NetworkFact
+pub use Rattle.machine_model.proofs.NodesFact
+pub use Rattle.machine_model.proofs.SessionFact
+pub use Rattle.machine_model.proofs.Twins
+pub use Rattle.machine_model.proofs.Walk

@@ -33,7 +33,7 @@ use Rattle.node_core.proofs.Lists.{all-at, all-set}
 use Rattle.node_core.specs.NodeModel.Step.{Post, changes, nothing, post, told_all}
 use Rattle.node_core.specs.NodeModel.Values.{Object, same_value}
 use Rattle.node_core.proofs.NodeModel.Alike.{same_value_decides}
-use Rattle.transform_record_laws.specs.MachineModel.Setup.{low_in}
+use Rattle.config_node.specs.MachineModel.Setup.{low_in}
 use Rattle.config_node.specs.Beginning.{no_node}
 use Rattle.config_node.specs.Core.{is_idle, kind, nothings}
 use Rattle.config_node.specs.Ends.{AreEnds, HasSent, Objects, controller, doubted, end_at, low_of, low_order, new_end, posts_of}

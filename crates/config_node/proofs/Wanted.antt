@@ -16,7 +16,7 @@ use Rattle.schema_transform.specs.TransformModel.Objects.{low_objects}
 use Rattle.node_core.specs.NodeModel.Keys.{Low, key_cmp}
 use Rattle.node_core.specs.NodeModel.Values.{Object}
 use Rattle.node_core.specs.NodeModel.Wants.{slice_entry}
-use Rattle.transform_record_laws.specs.MachineModel.Setup.{low_in}
+use Rattle.config_node.specs.MachineModel.Setup.{low_in}
 use Rattle.config_node.specs.Ends.{Objects, low_of, low_order}
 use Rattle.config_node.proofs.Images.{low-entries}
 

@@ -12,7 +12,7 @@ use Rattle.node_core.specs.Beginning as item
 pub use Rattle.node_core.specs.Beginning.{state_at}
 pub use Rattle.node_core.specs.NodeModel.Naming.{no_node}
 use Rattle.node_core.specs.NodeModel.Step.{Beginning, Phase, Post}
-use Rattle.transform_record_laws.specs.MachineModel.Network.{config}
+use Rattle.config_node.specs.MachineModel.Network.{config}
 
 -- the control node at the other end of a session
 abbrev pub controller_at : Checked → ℕ → NodeId

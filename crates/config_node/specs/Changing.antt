@@ -13,8 +13,8 @@ use Rattle.config_check.specs.Checked.{Checked}
 use Rattle.node_core.specs.Told.{AllFit}
 use Rattle.node_core.specs.NodeModel.Keys.{Low}
 use Rattle.node_core.specs.NodeModel.Values.{Object}
-use Rattle.transform_record_laws.specs.MachineModel.Setup.{low_in}
-use Rattle.transform_record_laws.specs.Ports.{with_ports}
+use Rattle.config_node.specs.MachineModel.Setup.{low_in}
+use Rattle.config_node.specs.Ports.{with_ports}
 use Rattle.config_node.specs.Ends.{low_order}
 
 -- nothing differs but the ports

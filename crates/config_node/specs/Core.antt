@@ -9,7 +9,7 @@ use Rattle.node_core.specs.NodeModel.Maps.{Map}
 pub use Rattle.node_core.specs.Keeping.{AreFew, AreOfLive, AreSwept, kept_at, nothing_kept}
 pub use Rattle.node_core.specs.Resting.{is_idle, is_up, may_send, nothings}
 use Rattle.node_core.specs.NodeModel.Step.{NodeKind, Post}
-use Rattle.transform_record_laws.specs.MachineModel.Setup.{low_in}
+use Rattle.config_node.specs.MachineModel.Setup.{low_in}
 
 -- its ends are those of the control nodes, in the order of the topology
 pub record Core : Type 0 where

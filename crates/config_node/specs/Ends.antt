@@ -23,7 +23,7 @@ use Rattle.node_core.specs.NodeModel.Keys.{Low, key_cmp}
 use Rattle.node_core.specs.NodeModel.Maps.{Map}
 use Rattle.node_core.specs.NodeModel.Step.{Post}
 use Rattle.node_core.specs.NodeModel.Values.{Object}
-use Rattle.transform_record_laws.specs.MachineModel.Setup.{low_in}
+use Rattle.config_node.specs.MachineModel.Setup.{low_in}
 use Rattle.config_node.specs.declared.ends.FeedEnd.{FeedEnd}
 
 pub record Ends : Type 0 where

@@ -1,7 +1,7 @@
 -- What is passed on of `machine_model`, so that the crates above need not list it.
-pub use Rattle.transform_record_laws.specs.MachineModel.Events
-pub use Rattle.transform_record_laws.specs.MachineModel.Moments
-pub use Rattle.transform_record_laws.specs.MachineModel.Network
-pub use Rattle.transform_record_laws.specs.MachineModel.Session
-pub use Rattle.transform_record_laws.specs.MachineModel.Setup
-pub use Rattle.transform_record_laws.specs.MachineModel.Steps
+pub use Rattle.machine_model.specs.Events
+pub use Rattle.machine_model.specs.Moments
+pub use Rattle.machine_model.specs.Network
+pub use Rattle.machine_model.specs.Session
+pub use Rattle.machine_model.specs.Setup
+pub use Rattle.machine_model.specs.Steps

@@ -7,7 +7,7 @@ ghost use Rattle.node_core.specs.Begun.{HasBegun};
 ghost use Rattle.node_core.specs.Keeping.{left_in, size_of};
 ghost use Rattle.node_core.specs.Whole.{Comes, session_of};
 ghost use Rattle.node_core.specs.NodeModel.Step.{Beginning, Idle, Opened, post};
-ghost use Rattle.transform_record_laws.specs.MachineModel.Network.{config};
+ghost use Rattle.config_node.specs.MachineModel.Network.{config};
 ghost use Rattle.config_node.specs.Beginning.{BeginsKeeping};
 ghost use Rattle.config_node.specs.Core.{is_idle, sessions};
 ghost use Rattle.config_node.specs.Ends.{whom};

@@ -1,4 +1,5 @@
-//! The configuration node: a valid configuration in, octets of low-level objects out, over any link.
+//! The configuration node: a valid configuration in, octets of low-level objects out, over any link. Its laws: each such
+//! object has a record, and a port changes its own alone.
 #![tactic(auto)]
 
 mod begin;
@@ -6,6 +7,7 @@ mod changing;
 mod ends;
 mod node;
 mod planning;
+pub mod record_laws;
 mod wants;
 
 pub use node::ConfigNode;

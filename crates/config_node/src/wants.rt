@@ -3,7 +3,7 @@ ghost use Rattle.std.specs.Prelude.{◌≡◌, IfOk, OnErr, OnOk, option_copied}
 ghost use Rattle.std.specs.FinMap.{get, insert, remove};
 ghost use Rattle.ov_sync.specs.Keyed.{map_of, set_key};
 ghost use Rattle.node_core.specs.Told.{AllFit};
-ghost use Rattle.transform_record_laws.specs.MachineModel.Setup.{low_in};
+ghost use Rattle.config_node.specs.MachineModel.Setup.{low_in};
 ghost use Rattle.config_node.specs.Ends.{low_of, low_order};
 
 use config_check::Valid;

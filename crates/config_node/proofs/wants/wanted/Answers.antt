@@ -1,6 +1,6 @@
 use Rattle.std.proofs.Common.{◌∙◌, ap}
 use Rattle.std.specs.FinMap.{from_entries}
-use Rattle.transform_record_laws.proofs.Law.{low_fits}
+use Rattle.config_node.proofs.Law.{low_fits}
 use Rattle.config_node.specs.Ends.{Objects}
 use Rattle.config_node.proofs.Wanted.{as_wanted}
 use Rattle.config_node.proofs.wants.wanted.Goals as goal

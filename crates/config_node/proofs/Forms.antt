@@ -15,7 +15,7 @@ use Rattle.config_types.specs.declared.config.Service.{Service}
 use Rattle.config_types.specs.declared.topology.Node.{Node}
 use Rattle.config_types.specs.declared.topology.Topology.{Topology}
 use Rattle.node_core.specs.ItemWire.Ranges.{are_ports, is_network}
-use Rattle.transform_record_laws.proofs.Lists.{passes_at}
+use Rattle.config_node.proofs.Lists.{passes_at}
 
 -- ---- the five lists of a configuration
 record Lists (c : Config) : Type 0 where

@@ -11,7 +11,7 @@ use Rattle.std.proofs.lemmas.List.Elements.{All-contains}
 use Rattle.ov_types.proofs.FirstLemmas.{all_head, all_tail, contains_cases, contains_here, contains_later, pairs_head, pairs_tail}
 use Rattle.node_core.proofs.NodeModel.Members.{contains_of, entry_in, from_entry}
 use Rattle.node_core.specs.NodeModel.Members.{Member}
-use Rattle.transform_record_laws.specs.Ports.{with_entry, without_entry}
+use Rattle.config_node.specs.Ports.{with_entry, without_entry}
 
 same_answer : {A : Type 0} (o p : Option A) → ((x : A) → o ≡ Some x → p ≡ Some x) → ((x : A) → p ≡ Some x → o ≡ Some x) → o ≡ p
 same_answer None None f g = refl

@@ -41,12 +41,12 @@ use Rattle.node_core.specs.ItemWire.Item.{Item}
 use Rattle.node_core.specs.ItemWire.Item.TheVariants as I
 use Rattle.node_core.proofs.ItemWire.ShortRecords.{most_are_short}
 use Rattle.node_core.specs.Told.{Fits, IsWritable}
-use Rattle.transform_record_laws.proofs.Entries.{between, entries_in_range}
-use Rattle.transform_record_laws.proofs.Few.{few_entries, few_imports, few_subnets}
-use Rattle.transform_record_laws.proofs.Forms.{network_fits, node_fits, port_fits, service_fits}
-use Rattle.transform_record_laws.proofs.Lists.{each_passes, length_zip, some_in, zipped_at}
-use Rattle.transform_record_laws.proofs.Services.{some_of_use}
-use Rattle.transform_record_laws.proofs.Short.{instance_short, list_short, use_short}
+use Rattle.config_node.proofs.Entries.{between, entries_in_range}
+use Rattle.config_node.proofs.Few.{few_entries, few_imports, few_subnets}
+use Rattle.config_node.proofs.Forms.{network_fits, node_fits, port_fits, service_fits}
+use Rattle.config_node.proofs.Lists.{each_passes, length_zip, some_in, zipped_at}
+use Rattle.config_node.proofs.Services.{some_of_use}
+use Rattle.config_node.proofs.Short.{instance_short, list_short, use_short}
 
 -- a record that has no list
 plain : (i : Item) → is_in_range i ≡ true → has_lists i ≡ false → IsWritable i

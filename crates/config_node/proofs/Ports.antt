@@ -25,9 +25,9 @@ use Rattle.node_core.specs.NodeModel.Values.{Value}
 use Rattle.node_core.specs.NodeModel.Wants.{slice_entry}
 use Rattle.node_core.proofs.NodeModel.Members.{contains_of, from_map, in_map, member_of}
 use Rattle.node_core.proofs.NodeModel.Orders.{key_exact, key_total}
-use Rattle.transform_record_laws.specs.Ports.{attachment, with_entry, with_ports, without_entry}
-use Rattle.transform_record_laws.proofs.Between.{exchanged, whatever_order}
-use Rattle.transform_record_laws.proofs.OtherPorts.{objects_with, others}
+use Rattle.config_node.specs.Ports.{attachment, with_entry, with_ports, without_entry}
+use Rattle.config_node.proofs.Between.{exchanged, whatever_order}
+use Rattle.config_node.proofs.OtherPorts.{objects_with, others}
 
 abbrev Entry : Type 0
 Entry = Key × Value

@@ -1,6 +1,4 @@
 //! The low-level objects of a valid configuration can be told, and a port changes its own alone: laws.
-#![tactic(auto)]
-
 ghost use Rattle.std.specs.Prelude.{◌≡◌, ◌++◌, IsTrue, List, None, Option};
 ghost use Rattle.std.specs.List.{cons_option};
 ghost use Rattle.config_types.specs.Form.{has_config_form, has_topology_form};
@@ -9,7 +7,7 @@ ghost use Rattle.machine_model.specs.ConfigCheck.Checked.{Checked};
 ghost use Rattle.machine_model.specs.ConfigCheck.Rules.{first_broken};
 ghost use Rattle.node_core.specs.Told.{AllFit};
 ghost use Rattle.machine_model.specs.Setup.{low_in};
-ghost use Rattle.transform_record_laws.specs.Ports.{attachment, with_entry, with_ports, without_entry};
+ghost use Rattle.config_node.specs.Ports.{attachment, with_entry, with_ports, without_entry};
 
 /// Each low-level object of a valid configuration of the written form has a record: all of its members are within their
 /// ranges, and it is short enough.

@@ -12,7 +12,7 @@ use Rattle.node_core.specs.ItemWire.Entries.{is_from_to}
 use Rattle.node_core.specs.ItemWire.Ranges.{is_network, is_block, is_import, is_hop, is_rule, is_in_range}
 use Rattle.node_core.specs.ItemWire.Records.{json_text, prefix_record, import_record, hop_record, rule_record}
 use Rattle.node_core.proofs.ItemWire.Weights.{json_weight}
-use Rattle.transform_record_laws.proofs.Sizes.{digits, from_to, import_small, prefix_small, hop_small, rule_small, list_small}
+use Rattle.config_node.proofs.Sizes.{digits, from_to, import_small, prefix_small, hop_small, rule_small, list_small}
 
 pub instance_short : (imports : List InstanceId) (i : InstanceId) → is_in_range (I.Instance imports i) ≡ true → length imports ≤ 128
     → length (json_text (I.Instance imports i)) ≤ 65536

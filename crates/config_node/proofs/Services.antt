@@ -28,7 +28,7 @@ use Rattle.machine_model.specs.TransformModel.IsUse.{IsUse}
 use Rattle.machine_model.specs.TransformModel.Uses.{ConfiguredUse}
 use Rattle.machine_model.proofs.TransformModel.InUse.{among_all, numbered}
 use Rattle.policy_rules.proofs.Lists.{mapped_is}
-use Rattle.transform_record_laws.proofs.Forms.{chain_has_hops}
+use Rattle.config_node.proofs.Forms.{chain_has_hops}
 
 -- what a list has of a name is found
 finds : {A : Type 0} (name_of : A → List ℕ) (xs : List A) (name : List ℕ) (x : A) → Contains xs x → name_of x ≡ name

@@ -15,7 +15,7 @@ use Rattle.node_core.proofs.NodeModel.Members.{from_entry, from_map, contains_of
 use Rattle.node_core.proofs.NodeModel.Orders.{key_exact, key_total}
 use Rattle.node_core.specs.Told.{AllFit, Fits}
 use Rattle.machine_model.specs.Setup.{low_in}
-use Rattle.transform_record_laws.proofs.Each.{object_told}
+use Rattle.config_node.proofs.Each.{object_told}
 
 pub low_fits : (x : Checked) → IsTrue (has_topology_form x.topology) → IsTrue (has_config_form x.config)
     → first_broken x.topology x.config ≡ None → AllFit (low_in x)

@@ -30,7 +30,7 @@ use Rattle.machine_model.proofs.AclCompile.Orders.{ascending_permutes}
 use Rattle.machine_model.specs.TransformModel.IsObject.{AreImports}
 use Rattle.policy_rules.proofs.Lists.{is_mapped, kept_is, mapped_is}
 use Rattle.machine_model.proofs.TransformModel.Lists.{pairs_mapped, pairs_of_map, pairs_weaker}
-use Rattle.transform_record_laws.proofs.Lists.{length_kept, length_sixteen, length_twice, no_more}
+use Rattle.config_node.proofs.Lists.{length_kept, length_sixteen, length_twice, no_more}
 
 -- ---- entries
 length_put : (p : Policy) (qs : List Policy) → length (put_by_sequence p qs) ≡ suc (length qs)

@@ -30,7 +30,7 @@ use Rattle.policy_rules.proofs.Lists.{joined_is}
 use Rattle.machine_model.proofs.TransformModel.Lists.{place_within, there_if}
 use Rattle.node_core.specs.ItemWire.Entries.{is_from_to}
 use Rattle.node_core.specs.ItemWire.Ranges.{are_ports, is_action, is_protocol, is_rule, is_rule_number}
-use Rattle.transform_record_laws.proofs.Forms.{RuleFits, policy_fits}
+use Rattle.config_node.proofs.Forms.{RuleFits, policy_fits}
 
 -- a number between two
 pub between : (low high n : ℕ) → low ≤ n → n ≤ high → is_from_to low high n ≡ true

@@ -1,2 +1,0 @@
--- What is passed on of `transform_record_laws`, so that the crates above need not list it.
-pub use Rattle.config_node.proofs.TransformRecordLaws.Law

@@ -1,2 +1,0 @@
-pub mod MachineModel
-pub mod Ports
