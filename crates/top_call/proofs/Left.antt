@@ -6,7 +6,7 @@ use Rattle.std.specs.declared.result.Result.{Result}
 use Rattle.std.specs.declared.result.Result.TheVariants.{Ok, Err}
 use Rattle.std.proofs.Common.{refl, ◌∙◌}
 use Rattle.ov_io.specs.declared.pieces.WriteRefusal.{WriteRefusal}
-use Rattle.run_answers.specs.NetState.{NetState}
+use Rattle.net_machine.specs.NetState.{NetState}
 use Rattle.compile_answers.specs.declared.unfit.Reception.{Reception}
 use Rattle.compile_answers.specs.declared.unfit.Reception.TheVariants.{Good, NotJson, BadDocument, Refused}
 use Rattle.compile_answers.specs.Leaving.{LeftOn, PromisedOn}

@@ -2,14 +2,14 @@
 use Rattle.std.proofs.Common.{◌≡◌, ℕ, List, Option, Some, None, refl}
 use Rattle.ov_io.specs.Pieces.{TookFrontOf}
 use Rattle.ov_io.proofs.PieceLemmas.{took_nothing}
-use Rattle.run_answers.specs.ConstraintAnswers.{constrain_answer}
+use Rattle.top_call.specs.ConstraintAnswers.{constrain_answer}
 use Rattle.compile_answers.specs.Answers.{compile_answer, reach_answer, scale_answer}
 use Rattle.flow_state.specs.Answers.{flows_answer}
 use Rattle.decode_answers.specs.Decoding.{spelled}
 use Rattle.decode_answers.proofs.Spelled.{text_spelled}
 use Rattle.decode_answers.proofs.LogWritten.{some_written}
-use Rattle.run_answers.specs.ScenarioAnswers.{gen_answer}
-use Rattle.run_answers.specs.Answers.{run_answer}
+use Rattle.top_call.specs.ScenarioAnswers.{gen_answer}
+use Rattle.top_call.specs.RunAnswers.{run_answer}
 use Rattle.top_call.specs.declared.command.Command.{Command}
 use Rattle.top_call.specs.declared.command.Command.TheVariants.{Compile, Reach, Scale, Constrain, Graceful, Flows, Run, Decode, Gen}
 use Rattle.top_call.specs.Answers.{Writes}

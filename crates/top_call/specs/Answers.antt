@@ -2,12 +2,12 @@
 use Rattle.std.specs.Prelude.{◌≡◌, ℕ, List}
 use Rattle.compile_answers.specs.declared.unfit.Reception.{Reception}
 use Rattle.compile_answers.specs.Answers.{compile_answer, reach_answer, scale_answer}
-use Rattle.run_answers.specs.ConstraintAnswers.{constrain_answer}
+use Rattle.top_call.specs.ConstraintAnswers.{constrain_answer}
 use Rattle.flow_state.specs.Answers.{flows_answer}
 use Rattle.decode_answers.specs.Decoding.{WritesSpelled, decode_verdict, spelled}
 use Rattle.decode_answers.specs.LogAnswers.{WritesLog, graceful_verdict, log_in}
-use Rattle.run_answers.specs.ScenarioAnswers.{gen_answer}
-use Rattle.run_answers.specs.Answers.{run_answer}
+use Rattle.top_call.specs.ScenarioAnswers.{gen_answer}
+use Rattle.top_call.specs.RunAnswers.{run_answer}
 use Rattle.top_call.specs.declared.command.Command.{Command}
 use Rattle.top_call.specs.declared.command.Command.TheVariants.{Compile, Reach, Scale, Constrain, Graceful, Flows, Run, Decode, Gen}
 

@@ -4,14 +4,14 @@ use Rattle.std.specs.declared.option.Option.{Option}
 use Rattle.std.specs.declared.option.Option.TheVariants.{Some, None}
 use Rattle.std.specs.declared.result.Result.{Result}
 use Rattle.ov_io.specs.declared.pieces.WriteRefusal.{WriteRefusal}
-use Rattle.run_answers.specs.ConstraintNetworks.{IsLeftSettled, TookConstraint}
+use Rattle.top_call.specs.ConstraintNetworks.{IsLeftSettled, TookConstraint}
 use Rattle.flow_state.specs.Answers.{TookReplies}
 use Rattle.decode_answers.specs.LogAnswers.{TookLog}
-use Rattle.run_answers.specs.NetState.{NetState}
+use Rattle.net_machine.specs.NetState.{NetState}
 use Rattle.compile_answers.specs.declared.unfit.Reception.{Reception}
 use Rattle.compile_answers.specs.Leaving.{LeftOn, PromisedOn}
-use Rattle.run_answers.specs.ScenarioAnswers.{IsLeftOfScenario, TookSummary}
-use Rattle.run_answers.specs.Networks.{IsLeftOf, TookAnswers}
+use Rattle.top_call.specs.ScenarioAnswers.{IsLeftOfScenario, TookSummary}
+use Rattle.top_call.specs.RunNetworks.{IsLeftOf, TookAnswers}
 use Rattle.top_call.specs.declared.command.Command.{Command}
 use Rattle.top_call.specs.declared.command.Command.TheVariants.{Constrain, Graceful, Flows, Run, Gen}
 

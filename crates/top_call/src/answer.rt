@@ -10,7 +10,10 @@ use compile_answers::{Reception, answer_compile, answer_reach, answer_scale};
 use decode_answers::{answer_decode, answer_graceful};
 use flow_state::answer_flows;
 use ov_io::{Sink, WriteRefusal};
-use run_answers::{Net, answer_constrain, answer_gen, answer_run};
+use crate::constraining::answer_constrain;
+use crate::generating::answer_gen;
+use crate::running::answer_run;
+use net_machine::Net;
 use std::alloc::Global;
 
 /// Writes what a command answers to an input, as it is made, and tells what the input is found to be. `constrain`, `run`

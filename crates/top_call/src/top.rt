@@ -12,7 +12,7 @@ use crate::answer::answer;
 use crate::command::{Command, command_from};
 use compile_answers::Reception;
 use ov_io::{InputRefusal, Sink, Source, WriteRefusal, read_all};
-use run_answers::{Net, leave_none};
+use net_machine::{Net, leave_none};
 use std::alloc::Global;
 
 /// The most octets that an input may have.

@@ -1,5 +1,5 @@
 use Rattle.std.proofs.Common.{sym, subst}
-use Rattle.run_answers.specs.ConstraintNetworks.{IsLeftSettled}
+use Rattle.top_call.specs.ConstraintNetworks.{IsLeftSettled}
 use Rattle.top_call.specs.Networks.{LeavesOn}
 use Rattle.top_call.proofs.Left.{left_on}
 use Rattle.top_call.proofs.answer.answer.Goals as goal

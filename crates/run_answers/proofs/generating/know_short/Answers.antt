@@ -1,5 +1,0 @@
-use Rattle.run_answers.proofs.Summed.{schedules_are_short}
-use Rattle.run_answers.proofs.generating.know_short.Goals as goal
-
-pub returns : goal.returns
-returns c = schedules_are_short c.args.n

@@ -1,0 +1,5 @@
+use Rattle.top_call.proofs.Counted.{counts_answers}
+use Rattle.top_call.proofs.laws.counts_are_of_answers.Goals as goal
+
+pub returns : goal.returns
+returns c = counts_answers
