@@ -91,7 +91,7 @@ fn routes_of(alloc: Global, records: &[Item]) -> Result<Option<Vec<(InstanceId, 
     Ok(Some(routes))
 }
 
-/// The same, of the records of a session that stays opened or up; else none.
+/// The routes that the records of a session put or drop, where it stays opened or up and the records do nothing else.
 fn routes_alone(
     alloc: Global,
     before: ItemState,
@@ -144,7 +144,8 @@ fn list_of(item: &Item) -> Option<(InstanceId, InstanceId)>
     }
 }
 
-/// The same, of the one record of a session that stays up; else none.
+/// The networks of the access list that the one record of a session puts or drops, where the session stays up and the
+/// record does nothing else.
 fn list_alone(
     before: ItemState,
     after: ItemState,

@@ -129,7 +129,7 @@ impl AgentNode {
         self.flows.entries()
     }
 
-    /// What it forwards by: its labels, its access lists and its routes, each in the order of their keys.
+    /// What the agent forwards by: its labels, its access lists and its routes, each in the order of their keys.
     pub fn rows(&self) -> Result<AgentRows, NoMemory>
         ensures shown { IfOk result (λ rows. rows ≡ self.now.rows) }
         ensures held { self.now.failed ≡ false → self.now.rows ≡ rows_of (holdings self.now.posts) }

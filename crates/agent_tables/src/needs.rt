@@ -23,7 +23,7 @@ pub(crate) fn needed(alloc: Global, slice: &[SliceObject<'_>]) -> Result<Vec<Ins
     Ok(needed)
 }
 
-/// Those of one object: of a port or a circuit its own, of an access list each that it enters.
+/// Appends the instances that an object needs: the own one of a port or a circuit, and each that an access list enters.
 fn need(needed: &mut Vec<InstanceId>, object: &SliceObject<'_>) -> Result<(), NoMemory>
     ensures { OnOk result (needed.new.items ≡ needed.old.items ++ needed_for object.now.value.now) }
 {

@@ -63,9 +63,9 @@ pub(crate) struct ControlEnds {
     /// What may have changed of what sessions are to be told, since the last pass.
     pub(crate) dirty: Dirty,
     pub(crate) feed: ItemSession,
-    /// Of session 1, 2 and so on.
+    /// The ends of the peers: session 1, 2 and so on.
     pub(crate) peers: Vec<PeerEnd>,
-    /// Of the sessions after those of the peers.
+    /// The ends of the agents: the sessions after those of the peers.
     pub(crate) agents: Vec<AgentEnd>,
     pub(crate) alloc: Global,
 }

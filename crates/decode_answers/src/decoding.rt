@@ -60,9 +60,9 @@ fn push_changes(
 
 /// What was told of a message.
 enum Told {
-    /// All that it says.
+    /// All that the message says.
     Whole,
-    /// That it has a fault.
+    /// That the message has a fault.
     Faulty,
 }
 

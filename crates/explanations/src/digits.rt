@@ -82,7 +82,7 @@ fn first_or_second(fault: Option<DigitFault>, place: TextPlace) -> Option<DigitF
 }
 
 impl DigitScan {
-    /// Of no text.
+    /// The scan of no text.
     pub fn new() -> DigitScan
         ensures { result ≡ nothing_scanned }
     {

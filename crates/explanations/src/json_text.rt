@@ -12,7 +12,7 @@ pub(crate) enum JsonEnd {
     Stopped(usize),
     /// Behind so many octets a list or an object begins that is deeper in others than the reader takes.
     TooDeep(usize),
-    /// It is a JSON text.
+    /// The text is a JSON text.
     Whole,
 }
 
@@ -79,7 +79,7 @@ enum Expected {
     Text(TextKind),
     /// What follows a backslash.
     Escaped(TextKind),
-    /// So many more hexadecimal digits.
+    /// A number of further hexadecimal digits.
     Digits(TextKind, u8),
     Number(NumberPart),
     Letters(Letters),

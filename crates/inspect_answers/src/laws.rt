@@ -27,7 +27,7 @@ pub fn expectations_have_just_their_members()
     ensures expect { ExpectHasJust }
 {}
 
-/// Another text than the five is no expectation, and is out of range; what is no text and no object is of another kind.
+/// A text other than the five is no expectation, and is out of range; what is no text and no object is of another kind.
 #[tactic(auto, using(crate::proofs::ExpectRead::other_is_none, crate::proofs::ExpectRead::nothing_else))]
 pub fn other_values_are_no_expectations()
     ensures text { OtherIsNoExpectation }

@@ -18,7 +18,7 @@ pub enum Cause {
     From {
         network: Name,
     },
-    /// Its destination is of this network.
+    /// The packet's destination is of this network.
     To {
         network: Name,
     },
@@ -41,7 +41,7 @@ pub enum Cause {
         network: Name,
         policy: Name,
     },
-    /// Another network holds its destination, and is not related to the one that it leaves.
+    /// Another network holds the packet's destination, and is not related to the one that the packet leaves.
     Unrelated {
         network: Name,
     },

@@ -42,7 +42,7 @@ fn attaching<'a>(
     Ok(networks)
 }
 
-/// Those of networks that attach the policy of the rule of this number too.
+/// The networks among some that attach the policy of the rule of this number too.
 fn also_attaching<'a>(
     alloc: Global,
     config: &Config,

@@ -27,8 +27,8 @@ pub fn what_one_configuration_delivers_is_delivered_again()
     ensures { AtMomentsSince OneDeliversAgain }
 {}
 
-/// So it is of the answers of a schedule, place by place, where ties are kept: a trace of such a packet is answered as delivered,
-/// once so many rounds have passed.
+/// Where ties are kept, each trace in a schedule of a packet that all configurations since such a moment keep to a port
+/// is answered as delivered there, once as many rounds have passed as `kept_packets_are_delivered_again` asks.
 pub fn traces_are_answered_as_delivered_again()
     ensures { (x : Checked) → IsWritten (opening x) → (es : List Event) → IsTrue (list_all has_event_form es)
         → IsAgainThroughout x es (answers x es) }

@@ -42,8 +42,8 @@ pub fn packets_never_run_out_of_lookups()
     ensures { AtMomentsWithTies (λ t cs w. OfEachPacket IsLedOn cs w) }
 {}
 
-/// So it is of the answers of a schedule, place by place, where ties are kept: each trace is answered with an outcome that
-/// keeps to what configurations so far permitted.
+/// Where ties are kept, each trace in a schedule is answered with an outcome that keeps to what configurations so far
+/// permitted.
 pub fn traces_keep_to_what_was_permitted()
     ensures { (x : Checked) → IsWritten (opening x) → (es : List Event) → IsTrue (list_all has_event_form es)
         → IsPermittedThroughout x es (answers x es) }

@@ -28,9 +28,9 @@ pub fn packets_go_the_common_way_again()
     ensures { AtMomentsSince GoesTheWayAgain }
 {}
 
-/// So a packet is delivered again whose source port is common, and that each configuration leads along a common way to one port.
-/// It goes by the way of one of them, through just its services, whatever other edits go on meanwhile: from five rounds later on,
-/// and one more for each service of the longest of its own ways.
+/// A packet whose source port is common, and that each configuration leads along a common way to one port, is delivered
+/// again. It goes by the way of one of them, through just its services, whatever other edits go on meanwhile: from five
+/// rounds later on, and one more for each service of the longest of its own ways.
 pub fn packets_are_delivered_again()
     ensures { AtMomentsSince DeliversAgain }
 {}

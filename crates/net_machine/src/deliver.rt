@@ -107,7 +107,7 @@ pub(crate) fn deliver_octets(
     )
 }
 
-/// So many times, or as often as something waits.
+/// Delivers n times, or as often as something waits.
 pub(crate) fn deliver_many(nodes: &mut Nodes, ends: SessionEnds, n: u32) -> Result<(), NoMemory>
     requires long { AreLong nodes.old.seats }
     requires seated { AreSeated nodes.old.seats ends }

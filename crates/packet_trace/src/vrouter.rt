@@ -10,7 +10,7 @@ use ov_types::{Addr, Attached, Entry, InstanceId, Label, Packet, Verdict};
 /// An agent that forwards packets by its labels, its access lists and its routes. Each circuit among its labels is one
 /// of a use, from 32769 to 131070.
 pub trait Vrouter {
-    /// Its address, and the rows by which it forwards.
+    /// The agent's address, and the rows by which it forwards.
     ghost forwarder: { Self → Forwarder };
 
     /// The address of its node.

@@ -10,9 +10,9 @@ use config_types::{Action, Config, Network, Policy, Rule};
 /// What is wanted of a rule between two networks.
 #[derive(Clone, Copy, PartialEq, Eq)]
 enum Wanted {
-    /// It passes packets.
+    /// The rule passes packets.
     Passing,
-    /// It passes packets, or leads them through a chain.
+    /// The rule passes packets, or leads them through a chain.
     LettingThrough,
 }
 

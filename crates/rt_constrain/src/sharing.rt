@@ -10,7 +10,7 @@ use ov_types::{VpnKey, VpnRoute};
 use rt_membership::Asked;
 use std::collections::BTreeMap;
 
-/// Of so many routes, so many are sent.
+/// How many routes there are, and how many of them are sent.
 #[derive(Clone, Copy)]
 pub struct Share {
     pub sent: usize,

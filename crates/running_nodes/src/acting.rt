@@ -202,8 +202,8 @@ pub(crate) fn show_agent(node: &AgentNode) -> Result<NodeRows, NoMemory>
     Ok(NodeRows::Agent(rows))
 }
 
-/// Another configuration, of the same control nodes, is valid at the configuration node, and each session is told what
-/// is wanted then.
+/// Sets the valid configuration of the configuration node to another, of the same control nodes, and tells each session
+/// what is wanted then.
 pub(crate) fn set_config(
     node: &mut ConfigNode,
     valid: Valid,

@@ -194,8 +194,8 @@ fn put_last(place: Option<u16>, first: usize, agents: &mut Vec<AgentNode>, edges
     }
 }
 
-/// Another agent, or none, is in the place of the one at a place, or behind all where there is no place, and so with
-/// their edges, which come behind so many others. Where memory is wanting, nothing changes.
+/// Puts another agent, or none, in the place of the one at a place, or behind all where no place is given, and does the
+/// same with their edges, of which the first stands at a given number. Where memory is wanting, nothing changes.
 pub(crate) fn reseat_agent(
     alloc: Global,
     topology: &Topology,

@@ -67,7 +67,7 @@ fn restart_at(cores: &mut Cores, edges: &mut [Edge], node: u16)
     edges[usize::from(node)].restart();
 }
 
-/// Another configuration, of the same control nodes, is valid at the configuration node.
+/// Sets the valid configuration of the configuration node to another, of the same control nodes.
 fn set_valid_at(cores: &mut Cores, edges: &mut [Edge], valid: Valid) -> Result<(), NoMemory>
     requires halves { AreAllHalves cores.old edges.old }
     requires same { (x : Checked) → (seat (joined cores.old edges.old) 0).who ≡ Configuring x
@@ -186,7 +186,7 @@ fn agent_named(edges: &[Edge], first: usize, name: &Name) -> Option<u16>
     edge_named(&edges[first..], name)
 }
 
-/// Another agent, or none, is in the place of the first one of a name, or behind all where none has the name.
+/// Puts another agent, or none, in the place of the first one of a name, or behind all where none has the name.
 fn reseat_at(
     cores: &mut Cores,
     edges: &mut Vec<Edge>,
@@ -308,7 +308,7 @@ impl Nodes {
         }
     }
 
-    /// The other end of a session, where there is somebody.
+    /// The place at the other end of a session, where there is somebody.
     pub fn far_of(&self, place: SessionPlace) -> Option<SessionPlace>
         requires node { place.node < length self.now.seats }
         requires session { place.session < length (seat self.now.seats place.node).posts }
@@ -485,8 +485,8 @@ impl Nodes {
         self.cores.valid()
     }
 
-    /// Another configuration, of the same control nodes, is valid at the configuration node, which tells each of them
-    /// what is wanted then.
+    /// Sets the valid configuration of the configuration node to another, of the same control nodes, and tells each of
+    /// them what is wanted then.
     pub fn set_valid(&mut self, valid: Valid) -> Result<(), NoMemory>
         requires same { (x : Checked) → (seat self.old.seats 0).who ≡ Configuring x
             → valid.topology.controllers ≡ x.topology.controllers }
@@ -540,7 +540,7 @@ impl Nodes {
         }
     }
 
-    /// Another agent, or none, is in the place of the first one of a name, or behind all where none has the name.
+    /// Puts another agent, or none, in the place of the first one of a name, or behind all where none has the name.
     pub fn reseat(
         &mut self,
         alloc: Global,

@@ -19,8 +19,7 @@ ghost use Rattle.scale_out.specs.GroupDocuments.{groups_document};
 ghost use Rattle.scale_out.specs.Reading.{groups_at, has_service};
 ghost use Rattle.scale_out.specs.Spread.{spread, reply};
 
-/// Of ascending members, of which there are some, exactly one is chosen: the one with the greatest score, and the least
-/// such.
+/// Exactly one of some ascending members is chosen: the one with the greatest score, and the least of several such.
 pub fn one_member_is_chosen()
     ensures { (members : List ℕ) (key m : ℕ) → 0 < length members → IsStrictlyIncreasing members
         → (chosen members key ≡ m) ↔ IsChosen members key m }

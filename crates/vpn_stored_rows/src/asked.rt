@@ -227,7 +227,7 @@ impl StoredTables {
         self.held.touched_by_route(session, delta)
     }
 
-    /// Those that a change of what an agent told may change: of a subscription none.
+    /// The rows that a change of what an agent told may change; a subscription changes none.
     pub fn touched_by_publication(
         &self,
         session: u16,

@@ -359,7 +359,7 @@ impl StoredTables {
         listed(self.alloc, &self.rows, i)
     }
 
-    /// The same for a caller that counts nothing.
+    /// Applies a change of a peer's route, for a caller that counts nothing.
     pub fn set_peer_route(
         &mut self,
         session: u16,
@@ -371,7 +371,7 @@ impl StoredTables {
         set_route_on::<Brand>(self, session, delta, Blank::new(1))
     }
 
-    /// The same for a caller that counts nothing.
+    /// Applies a change of an agent's publication, for a caller that counts nothing.
     pub fn set_publication(
         &mut self,
         session: u16,

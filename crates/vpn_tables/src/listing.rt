@@ -33,7 +33,7 @@ impl VpnTables {
         Ok(routes)
     }
 
-    /// Those of an agent.
+    /// Appends the routes of an agent's publications.
     fn push_own(&self, routes: &mut Vec<Route>, agent: &Agent) -> Result<(), NoMemory>
         ensures { OnOk result (map path_of routes.new.items ≡ map path_of routes.old.items
             ++ filter_map (λ e. own_path self.now (agent_of agent.now) e.0 e.1) (entries (agent_of agent.now).map)) }
