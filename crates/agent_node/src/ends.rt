@@ -159,7 +159,7 @@ impl AgentEnds {
         shut(&mut self.hearings[index], &mut self.sents[index]);
     }
 
-    /// Where its memory comes from.
+    /// Where the ends take memory from.
     pub(crate) fn alloc(&self) -> Global {
         self.alloc
     }

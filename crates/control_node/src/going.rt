@@ -17,7 +17,7 @@ use ov_link::{Link, Links, NodeFault};
 use ov_types::NoMemory;
 use std::alloc::{AllocError, Global};
 
-/// The numbers below one.
+/// The numbers of a list that are below a given one.
 fn below(alloc: Global, numbers: &[u16], number: u16) -> Result<Vec<u16>, AllocError>
     ensures { IfOk result (λ found. found.items ≡ filter (λ m. nat_lt m number) numbers.now) }
 {
@@ -28,7 +28,7 @@ fn below(alloc: Global, numbers: &[u16], number: u16) -> Result<Vec<u16>, AllocE
         .collect(alloc)
 }
 
-/// The numbers above one.
+/// The numbers of a list that are above a given one.
 fn above(alloc: Global, numbers: &[u16], number: u16) -> Result<Vec<u16>, AllocError>
     ensures { IfOk result (λ found. found.items ≡ filter (λ m. nat_lt number m) numbers.now) }
 {

@@ -99,7 +99,7 @@ impl DigitScan {
         self.fault
     }
 
-    /// Behind an octet too. Nothing is looked at behind a stray one.
+    /// The scan behind one octet more. Nothing is looked at behind a stray octet.
     fn after(self, octet: u8) -> DigitScan
         ensures { result ≡ scan_after self octet }
     {

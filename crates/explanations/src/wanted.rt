@@ -73,7 +73,8 @@ fn is_item(word: &str) -> bool
     word.as_bytes().strip_suffix(b"]").is_some()
 }
 
-/// What is wanted of a member, by the one before it: the list that its object is in, or the object's kind in an edit.
+/// What is wanted of a member, by the word that stands before it in a path: the list that its object is in, or the
+/// object's kind in an edit.
 #[tactic(auto, unfolding(crate::specs::Wanted::member_wanted))]
 fn member_wanted(parent: &str, member: &str) -> &'static str
     ensures { result.now ≡ member_wanted parent.now member.now }

@@ -51,7 +51,7 @@ impl Cast {
         Ok(())
     }
 
-    /// With a compute node.
+    /// Adds a compute node.
     pub(crate) fn hear_agent(&mut self, agent: &Value) -> Result<(), AllocError> {
         let Some(name) = name_in(agent) else {
             return Ok(());

@@ -67,7 +67,7 @@ fn interrupted_by(
 }
 
 impl Judge {
-    /// Before the first edit.
+    /// The judge before the first edit, of a valid configuration.
     #[tactic(auto, using(crate::proofs::Standing::starts))]
     pub(crate) fn new(alloc: Global, valid: Valid) -> Result<Judge, NoMemory>
         ensures { IfOk result (λ j. standing j ≡ standing_first valid) }

@@ -51,8 +51,8 @@ pub fn rounds_are_of_messages_octets_and_rounds()
         → after_rounds size w (es ∷ fs ∷ []) ≡ after size (after size w es) fs }
 {}
 
-/// When a round begins, the notice that waits is due, or else each message that is in flight, and nothing else: session
-/// by session, from the earlier node to the later one and then back.
+/// When a round begins, exactly what waits is due: of each session in turn, from its earlier node to its later one and
+/// then back, the notice that waits, or else each message that is in flight.
 pub fn rounds_begin_with_what_is_in_flight()
     ensures { (w : MachineState) → AreDue w.sessions (dues w) }
 {}

@@ -28,10 +28,10 @@ pub fn packets_come_only_where_they_were_permitted()
     ensures { AtMomentsWithTies (λ t cs w. OfEachPacket IsPermittedSomehow cs w) }
 {}
 
-/// Where besides each use between the two networks had one list of services in all configurations so far in which it was in
-/// effect, the services that the packet visited are just those by which that configuration permitted it: none in its own
-/// network or by a pass rule, and by a chain rule exactly those of the chain, in order, or reversed where it matched
-/// mirrored.
+/// Let the destination be as in `packets_come_only_where_they_were_permitted`, and each use between the two networks
+/// have had one list of services in all configurations so far in which it was in effect. Then the services that a
+/// delivered packet visited are just those by which a configuration permitted it: none in its own network or by a pass
+/// rule, and by a chain rule exactly those of the chain, in order, or reversed where it matched mirrored.
 pub fn packets_visit_only_what_was_permitted()
     ensures { AtMomentsWithTies (λ t cs w. OfEachPacket IsPermitted cs w) }
 {}

@@ -26,7 +26,7 @@ pub(crate) fn session_of(input: &Input<'_>) -> u16
 /// What a step of the ends came to, where it found memory.
 #[derive(Drop)]
 struct Advanced<C> {
-    /// How it is answered.
+    /// How the step is answered.
     stepped: Result<Stepped<C>, NodeFault>,
     /// How many octets of the input were taken.
     taken: usize,

@@ -28,7 +28,7 @@ pub trait Vrouter {
         ensures same { forwarder self.new ≡ forwarder self.old }
         ensures kept { self.new ≡ self.old };
 
-    /// Where its routes of an instance lead an address. There is nothing exactly where none of them contains it.
+    /// Where the agent's routes of an instance lead an address: nowhere exactly where none of them contains it.
     fn route(&self, i: InstanceId, a: Addr) -> Option<Entry>
         ensures { result ≡ looked_up (forwarder self.now).rows i a.0 };
 }

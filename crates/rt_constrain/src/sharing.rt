@@ -17,7 +17,7 @@ pub struct Share {
     pub all: usize,
 }
 
-/// How many of these routes are asked.
+/// How many of some routes are asked for.
 fn covered_among(routes: &BTreeMap<VpnKey, VpnRoute>, asked: &[Asked]) -> usize
     requires { AreAsked asked.now }
     ensures { result ≡ length (filter (λ e. covers asked.now e.1) routes.now.entries) }
@@ -32,8 +32,8 @@ fn covered_among(routes: &BTreeMap<VpnKey, VpnRoute>, asked: &[Asked]) -> usize
     count
 }
 
-/// How many of the routes that a control node would tell its peers are sent to one that asks so, and how many they are
-/// in all. It takes no memory.
+/// How many of the routes that a control node would tell its peers are sent to a peer that asks for some targets, and
+/// how many routes there are in all. It takes no memory.
 pub fn share_of(routes: &BTreeMap<VpnKey, VpnRoute>, asked: &[Asked]) -> Share
     requires { AreAsked asked.now }
     ensures { result ≡ share asked.now (peer_of routes.now.entries) }

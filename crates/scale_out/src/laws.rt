@@ -52,8 +52,8 @@ pub fn groups_are_of_services_of_their_own()
         → All (λ g. IsTrue (has_service c g.service)) groups × AllPairs (λ g h. g.service ≢ h.service) groups }
 {}
 
-/// Each such list of groups of the form has a document, with each member under its own name, and it reads as that list
-/// wherever it stands.
+/// Each list of groups of the form, of services that the configuration has and no two of one service, has a document,
+/// with each member under its own name, and it reads as that list wherever it stands.
 pub fn groups_are_read()
     ensures { (c : Config) (groups : List Several) → IsTrue (list_all has_group_form groups)
         → All (λ g. IsTrue (has_service c g.service)) groups → AllPairs (λ g h. g.service ≢ h.service) groups

@@ -54,7 +54,7 @@ impl<'a> Side<'a> {
         self.number
     }
 
-    /// How many services it has, and so the last of its places.
+    /// How many services the use has, which is the number of its last place.
     pub fn services(&self) -> u8
         ensures number { result ≡ self.now.chain.services }
         ensures at_most { result ≤ 15 }
