@@ -34,7 +34,7 @@ abbrev pub kept : List (Block × Entry) → Block → Entry → List (Block × E
 kept routes prefix entry =
     if is_some (lookup (is_at (block_cmp prefix)) routes) then routes else insert_entry block_cmp routes prefix entry
 
--- the same in the table of its instance, where that has one
+-- the tables, with one route more in the table of its instance, where that has one
 abbrev pub kept_in : List Table → InstanceId → Block → Entry → List Table
 kept_in [] i prefix entry = []
 kept_in (t ∷ ts) i prefix entry =

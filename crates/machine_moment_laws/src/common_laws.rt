@@ -36,8 +36,8 @@ pub fn what_the_common_part_compiles_to_is_common()
         → HasAllRows (rows_in_common (b ∷ ds) address) (agent_rows (common (b ∷ ds)) address) }
 {}
 
-/// In no instance, of a network or of a place of a use, has it another route that contains an address which such a route
-/// contains: so the longest prefix there is that of the common route.
+/// An agent has in no instance, of a network or of a place of a use, another route that contains an address which a
+/// common route contains: so the longest prefix there is that of the common route.
 pub fn common_routes_lead_alone()
     ensures { AtMomentsOfWindows NothingElseLeads }
 {}

@@ -30,7 +30,8 @@ pub fn kept_packets_are_delivered()
     ensures { AtMomentsOfWindows KeptAreDelivered }
 {}
 
-/// In a window with one accepted edit at most no address changes hands. So nothing is asked of it there.
+/// In a window with one accepted edit at most no address changes hands, so that nothing is asked of hands for
+/// `kept_packets_are_delivered` there.
 pub fn kept_packets_are_delivered_in_one_edit()
     ensures { AtMomentsOfWindows KeptInOneEdit }
 {}

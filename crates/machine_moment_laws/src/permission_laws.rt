@@ -36,8 +36,8 @@ pub fn packets_visit_only_what_was_permitted()
     ensures { AtMomentsWithTies (λ t cs w. OfEachPacket IsPermitted cs w) }
 {}
 
-/// Under the first premise alone a packet visits at most 15 services, so that it is looked up at most 16 times, and none is
-/// dropped for want of lookups.
+/// Where the destination is as in `packets_come_only_where_they_were_permitted`, a packet visits at most 15 services,
+/// so that it is looked up at most 16 times, and is never dropped for want of lookups.
 pub fn packets_never_run_out_of_lookups()
     ensures { AtMomentsWithTies (λ t cs w. OfEachPacket IsLedOn cs w) }
 {}
@@ -49,9 +49,9 @@ pub fn traces_keep_to_what_was_permitted()
         → IsPermittedThroughout x es (answers x es) }
 {}
 
-/// A configuration meets both premises by itself: each of its uses has one list of services, and the destination of each
-/// packet that its policies deliver lies in one network alone. It permits exactly what its policies deliver, by the services
-/// that they name.
+/// A configuration meets the premises of `packets_visit_only_what_was_permitted` by itself: each of its uses has one
+/// list of services, and the destination of each packet that its policies deliver lies in one network alone. It permits
+/// exactly what its policies deliver, by the services that they name.
 pub fn what_policies_deliver_is_permitted()
     ensures services { (x : Checked) → IsWritten (opening x) → (a b : InstanceId) → KeptServices (x.config ∷ []) a b }
     ensures delivered { (x : Checked) → IsWritten (opening x) → (p : Packet) (q : PortNo) (services : List ServiceNo)

@@ -50,8 +50,9 @@ pub fn refused_packets_are_dropped_once_two_rounds_passed()
     ensures { AfterAnySchedule RefusesSoonAfter }
 {}
 
-/// Where ties are kept, each trace in a schedule of a packet that the policies of the moment refuse is answered as
-/// dropped, once two rounds have passed in which nothing else happened.
+/// Where ties are kept, take any place of a schedule at which no break is pending. A trace of a packet that the
+/// policies of the moment refuse is answered as dropped, once two rounds have passed since then in which nothing else
+/// happened.
 pub fn refused_packets_are_answered_as_dropped()
     ensures { (x : Checked) → IsWritten (opening x) → (es : List Event) → IsTrue (list_all has_event_form es)
         → IsRevoked x es (answers x es) }

@@ -65,7 +65,7 @@ abbrev pub is_place : ℕ → Option Use → Bool
 is_place j None = false
 is_place j (Some u) = nat_le j u.services
 
--- those of held networks, and those of the places of held uses
+-- the known instances: those of held networks, and those of the places of held uses
 abbrev pub is_known : Map → InstanceId → Bool
 is_known feed i =
     if is_hop i then is_place (place_of i) (held_use feed i)

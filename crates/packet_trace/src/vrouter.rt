@@ -13,11 +13,11 @@ pub trait Vrouter {
     /// The agent's address, and the rows by which it forwards.
     ghost forwarder: { Self → Forwarder };
 
-    /// The address of its node.
+    /// The address of the agent's node.
     fn address(&self) -> Addr
         ensures { result ≡ (forwarder self.now).address };
 
-    /// What is under a label. There is nothing exactly where the label is not among its labels.
+    /// What is under a label. There is nothing exactly where the label is not among the agent's labels.
     fn find(&self, label: Label) -> Option<Attached>
         ensures found { result ≡ attached (forwarder self.now).rows label }
         ensures circuits { All (λ e. IsOfAUse e.1) (forwarder self.now).rows.labels };

@@ -39,7 +39,7 @@ OfDelivery Joins e a = ⊤
 abbrev pub DeliversSoFar : Checked → List Event → Event → TiedAnswer → Type 0
 DeliversSoFar x es e a = OfDelivery (StayJoined (configs_so_far x es)) e a
 
--- and among those that ties join
+-- a packet that is delivered stays among ports that ties join
 abbrev pub DeliversTied : Ties → Event → TiedAnswer → Type 0
 DeliversTied t e a = OfDelivery (AreJoined t) e a
 
