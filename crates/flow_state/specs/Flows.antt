@@ -58,7 +58,7 @@ pub record PermitsOneWay (c : Config) (f : Flow) : Type 0 where
   pub decides : deciding c own target f.tuple ≡ Some decider
   pub one_way : decider.rule.rule.direction ≡ OneWay
 
--- the rule that decides between the two is of one direction
+-- the rule that decides between the two networks of a flow is of one direction
 abbrev pub speaks_one_way : Option Match → Bool
 speaks_one_way None = false
 speaks_one_way (Some m) = not (speaks_both_ways m.rule.rule.direction)
