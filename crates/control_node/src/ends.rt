@@ -122,6 +122,7 @@ impl Ends for ControlEnds {
     }
 
     fn begin(&mut self, input: Input<'_>) -> Result<Started<NodeCause>, NoMemory> {
+        // (for its clauses: there are as many ends as sessions, fewer than 65,536)
         let _before = self.sessions();
         let applied = self.apply(input);
         let _after = self.sessions();

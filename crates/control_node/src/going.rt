@@ -179,6 +179,7 @@ impl ControlNode {
         ensures links { length links.new ≡ length links.old }
         ensures failed { self.new.failed ≡ self.old.failed }
     {
+        // (for its clauses: there are as many ends as sessions, fewer than 65,536)
         let _sessions = self.node.ends.sessions();
         let retired = with_number(self.node.ends.alloc(), &self.retired, session)?;
         let lowest = close_and_tell(&mut self.node, session, links)?;
@@ -228,6 +229,7 @@ impl ControlNode {
         ensures departed { OnOk result (self.new ≡ departed self.old session) }
         ensures err { OnErr result (self.new ≡ self.old) }
     {
+        // (for its clauses: there are as many ends as sessions, fewer than 65,536)
         let _sessions = self.node.ends.sessions();
         let retired = with_number(self.node.ends.alloc(), &self.retired, session)?;
         forget(&mut self.node, session);
@@ -246,6 +248,7 @@ impl ControlNode {
         ensures links { length links.new ≡ length links.old }
         ensures failed { self.new.failed ≡ self.old.failed }
     {
+        // (for its clauses: there are as many ends as sessions, fewer than 65,536)
         let _sessions = self.node.ends.sessions();
         tell_all(&mut self.node, links)
     }

@@ -43,6 +43,7 @@ pub fn greet(
     ensures hello { IfOk result (λ replies. replies ≡ spelling (Hello me.now) ∷ []) }
 {
     let _event = session.opened();
+    // (for its clause: a name has the form of names)
     let _text = me.text();
     let hello = item_octets(alloc, &Item::Hello { name: *me })?;
     let mut replies = Vec::new(alloc);

@@ -22,6 +22,7 @@ fn covered_among(routes: &BTreeMap<VpnKey, VpnRoute>, asked: &[Asked]) -> usize
     requires { AreAsked asked.now }
     ensures { result ≡ length (filter (λ e. covers asked.now e.1) routes.now.entries) }
 {
+    // (for its clause: the routes are fewer than 2^64, so that their count does not overflow)
     let _all = routes.len();
     let mut count = 0;
     for (_, route) in routes.iter() {

@@ -109,6 +109,7 @@ fn add_agent(
     let others = others_of_agent(alloc, &plan)?;
     let edge = Edge::new(alloc, node.name, others)?;
     let agent = AgentNode::new(alloc, plan)?;
+    // (for its clause: an agent that did not fail forwards by what it holds)
     let _failed = agent.failed();
     agents.reserve(1)?;
     edges.reserve(1)?;

@@ -75,6 +75,7 @@ fn set_valid_at(cores: &mut Cores, edges: &mut [Edge], valid: Valid) -> Result<(
     ensures halves { AreAllHalves cores.new edges.new }
     ensures configures { IfOk result (λ _. Configures (joined cores.old edges.old) valid (joined cores.new edges.new)) }
 {
+    // (for its clauses: the first node is the configuration node)
     let _valid = cores.valid();
     let edge = &mut edges[0];
     cores.set_valid(valid, &mut edge.links)
@@ -166,6 +167,7 @@ fn join_at(
         ≡ with_seat node (joined_by_agent agent (seat (joined cores.old edges.old.items) node))
         (joined cores.old edges.old.items)) }
 {
+    // (for its clauses: the first node is the configuration node)
     let _valid = cores.valid();
     match join_over(cores, &mut edges[usize::from(node)], node, agent) {
         Ok(()) => Ok(()),

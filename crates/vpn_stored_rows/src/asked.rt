@@ -55,6 +55,7 @@ impl StoredTables {
     pub fn uses_are_short(&self)
         ensures { AreShort self.now.feed }
     {
+        // (for its clause: no held use has more than 15 services)
         self.held.uses_are_short();
     }
 

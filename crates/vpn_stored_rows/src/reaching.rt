@@ -112,6 +112,7 @@ fn is_up(held: &VpnTables, side: &Side<'_>, distance: u8, subnet: &Prefix) -> bo
     requires within { distance ≤ side.now.chain.services }
     ensures { result ≡ is_up held.now side.now subnet.now distance }
 {
+    // (for its clause: no held use has more than 15 services)
     held.uses_are_short();
     held.up(side.hop_at(distance), subnet, side.is_right())
 }

@@ -204,6 +204,7 @@ impl VpnTables {
     pub fn led_keyed(&self, key: &VpnKey) -> Option<Route>
         ensures { option_map path_of result ≡ first_keyed key.now (reoriginated_paths self.now) }
     {
+        // (a read of the tables, for what always holds of them)
         let _ = &self.asn;
         let hop = instance_of(key.rd);
         match self.led_keyed_at(hop, key, true) {

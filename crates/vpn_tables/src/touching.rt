@@ -52,6 +52,7 @@ impl VpnTables {
     pub fn uses_are_short(&self)
         ensures { AreShort self.now.feed }
     {
+        // (a read of the tables, for what always holds of them)
         let _asn = self.asn;
     }
 
