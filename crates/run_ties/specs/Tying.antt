@@ -83,7 +83,7 @@ no_ties = record {
   name = λ address. None;
 }
 
--- with what is valid then: a number, a name and an address keep their first ties
+-- the ties with what is valid then: a number, a name and an address keep their first ties
 abbrev pub joined : Ties → Checked → Ties
 joined t x = record {
   port = λ p. t.port p <|> port_network x.config p;
