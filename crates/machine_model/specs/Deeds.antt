@@ -47,7 +47,7 @@ pub record IsNew (s : Session) : Type 0 where
   pub near : IsClosed s.near
   pub far : IsClosed s.far
 
--- a session of the agent of this name is down, and nothing of it is there
+-- a session is new, where it is one of the agent of this name
 abbrev pub IsNewFor : Name → Session → Type 0
 IsNewFor name s = is_of name s ≡ true → IsNew s
 

@@ -147,8 +147,8 @@ StartsWhereCommon cs w =
     (n : Node) (from : InstanceId) (p : Packet) → StartsInCommon cs n from p
     → first_of (source_at p) (forwarders w) ≡ Some (agent_at_node w n, from)
 
--- each packet whose source port stands at a node that stands, in one network, is delivered by the way of one
--- configuration
+-- each packet whose source port stands at a node that stands, in one network, and that each configuration leads along a
+-- common way, is delivered by the way of one configuration
 abbrev pub DeliversByOne : List Checked → MachineState → Type 0
 DeliversByOne cs w =
     (n : Node) (from : InstanceId) (to : ℕ) (p : Packet) (q : PortNo) → StartsInCommon cs n from p → IsLedByAll cs n from to p q
