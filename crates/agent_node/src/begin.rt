@@ -187,11 +187,11 @@ fn slice_stays(routes_stay: bool, in_use: bool) -> bool
 struct Taken {
     /// How many octets were taken: all but those of a record that is not whole.
     taken: usize,
-    /// Why they took the session down, where they did.
+    /// Why the octets took the session down, where they did.
     cause: Option<ItemCause>,
-    /// The routes that they put or dropped, where they did nothing else.
+    /// The routes that the records put or dropped, where they did nothing else.
     routes: Option<Vec<(InstanceId, Prefix)>>,
-    /// Whether they put and dropped no route, and left the session as it was.
+    /// Whether the records put and dropped no route, and left the session as it was.
     routes_stay: bool,
     /// The networks of the access list that they put or dropped, where they did nothing else.
     list: Option<(InstanceId, InstanceId)>,

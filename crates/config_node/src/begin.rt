@@ -26,7 +26,7 @@ use std::alloc::Global;
 struct Taken {
     /// How many octets were taken: all but those of a record that is not whole.
     taken: usize,
-    /// Why they took the session down, where they did.
+    /// Why the octets took the session down, where they did.
     cause: Option<ItemCause>,
 }
 

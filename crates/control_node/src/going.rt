@@ -39,7 +39,7 @@ fn above(alloc: Global, numbers: &[u16], number: u16) -> Result<Vec<u16>, AllocE
         .collect(alloc)
 }
 
-/// The numbers with this one, in ascending order.
+/// Numbers with one more, in ascending order.
 fn with_number(alloc: Global, numbers: &[u16], number: u16) -> Result<Vec<u16>, NoMemory>
     ensures { IfOk result (λ all. all.items ≡ inserted numbers.now number) }
 {

@@ -22,15 +22,15 @@ pub enum Cause {
     To {
         network: Name,
     },
-    /// A rule between the two is asked and does not match it, with the condition that fails first where the rule is read
-    /// forwards, and where a rule of both directions is read mirrored.
+    /// A rule between the two networks is asked and does not match the packet, with the condition that fails first
+    /// where the rule is read forwards, and where a rule of both directions is read mirrored.
     Skipped {
         rule: RuleNo,
         policy: Option<Name>,
         forwards: Condition,
         mirrored: Option<Condition>,
     },
-    /// A rule between the two decides on it, forwards or mirrored.
+    /// A rule between the two networks decides on the packet, forwards or mirrored.
     Decided {
         rule: RuleNo,
         policy: Option<Name>,

@@ -147,7 +147,7 @@ fn push_before(
     Ok(())
 }
 
-/// The rules of these that stand before a rule.
+/// The rules among some that stand before a rule.
 pub(crate) fn rules_before(
     alloc: Global,
     config: &Config,

@@ -30,7 +30,7 @@ pub(crate) fn take(nodes: &mut Nodes, node: u16, input: Input<'_>) -> Result<(),
     Ok(())
 }
 
-/// What is behind so many octets, if anything.
+/// What is behind a number of octets, if anything.
 fn behind(octets: &[u8], taken: usize) -> &[u8]
     ensures { result.now ≡ drop taken octets.now }
 {

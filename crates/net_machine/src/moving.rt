@@ -75,7 +75,7 @@ fn leave(nodes: &mut Nodes, name: &Name, control: &Name) -> Result<(), NoMemory>
     }
 }
 
-/// An agent goes from these control nodes.
+/// An agent goes from the control nodes of some names.
 fn leave_all(nodes: &mut Nodes, name: &Name, controls: &[Name]) -> Result<(), NoMemory>
     requires long { AreLong nodes.old.seats }
     requires left { AreLeft nodes.old.seats name.now controls.now }

@@ -109,7 +109,7 @@ fn keep(records: &mut Vec<Item>, event: ItemEvent) -> Result<Option<ItemCause>, 
     }
 }
 
-/// The octets after so many.
+/// The octets behind a first part of a size.
 fn past(bytes: &[u8], size: usize) -> &[u8]
     requires { size ≤ length bytes.now }
     ensures { result.now ≡ drop size bytes.now }

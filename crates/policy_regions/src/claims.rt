@@ -44,7 +44,7 @@ fn forward_region(rule: &NumberedRule) -> Region
     }
 }
 
-/// The answers to those packets.
+/// The region of the answers to the packets of a rule.
 fn mirrored_region(rule: &NumberedRule) -> Region
     ensures { result ≡ (mirrored_claim rule.now).region }
 {
