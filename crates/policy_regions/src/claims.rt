@@ -33,7 +33,7 @@ fn effect_of(action: &Action) -> Effect
     }
 }
 
-/// The packets that go as the rule is written.
+/// The region of the packets that go as a rule is written.
 fn forward_region(rule: &NumberedRule) -> Region
     ensures { result ≡ (forward_claim rule.now).region }
 {
