@@ -113,7 +113,7 @@ rows h = record {
   routes = routes h;
 }
 
--- ---- the same, as relations
+-- ---- what an agent holds and wants, said as relations
 -- what was heard besides rows: which sessions are up, and the objects of each
 abbrev pub besides_rows : Holdings → List (Bool × List (LowKey × LowValue))
 besides_rows h = map (λ s. (s.is_up, objects s.map)) h

@@ -89,7 +89,7 @@ imports feed i =
     if is_hop i then hop_imports (place_of i) (held_use feed i)
     else network_imports (object feed (key.Instance i.0))
 
--- ---- the same, as a relation
+-- ---- imports, said as a relation
 -- what is imported at place j of a use: the place itself, the left network exactly at the left end, the right network
 -- exactly at the right end
 abbrev pub IsImportedAt : Use → ℕ → InstanceId → Type 0

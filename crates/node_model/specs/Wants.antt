@@ -75,7 +75,7 @@ abbrev pub wanted_by_agent : Holdings → Told → Map
 wanted_by_agent h a =
     from_entries (map slice_entry (slice h.feed a.address) ++ flat_map (rows_of h) (subscriptions a.map))
 
--- ---- the same, as relations
+-- ---- slices and wants, said as relations
 -- an attachment at this address
 abbrev pub IsAttachedAt : Addr → LowValue → Type 0
 IsAttachedAt address (low.AttachPort port instance host node) = node ≡ address

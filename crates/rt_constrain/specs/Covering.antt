@@ -24,7 +24,7 @@ covers asked r = list_any (is_covered_by r.targets) asked
 abbrev pub AreAsked : List Asked → Type 0
 AreAsked asked = AllByRecursion IsAsked asked
 
--- ---- the same, as relations
+-- ---- what is covered, said as relations
 -- a target begins with the bits of what is asked: behind them it has any others
 pub record BeginsWith (a : Asked) (t : Target) : Type 0 where
   pub others : ℕ

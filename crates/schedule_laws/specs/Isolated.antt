@@ -54,7 +54,7 @@ abbrev pub IsIsolated : Checked → List Event → List TiedAnswer → Type 0
 IsIsolated x es answered =
     (place : ℕ) (e : Event) (a : TiedAnswer) → StandsAt es answered place e a → DeliversSoFar x (take place es) e a
 
--- ---- the same with no definition of ties
+-- ---- isolation with no definition of ties
 -- both port numbers stood in configurations so far, in networks that are one or between which a configuration so far had a
 -- rule that lets packets through; and so are whichever networks configurations so far had the two in
 pub record StayRelated (cs : List Config) (p q : PortNo) : Type 0 where
