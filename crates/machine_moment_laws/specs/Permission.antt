@@ -66,13 +66,13 @@ KeptServices cs a b =
     → IsUsedBetween c a b number ss → IsUsedBetween e a b number ts → ss ≡ ts
 
 -- ---- what is promised of a packet and of what becomes of it
--- where a packet is delivered, this is said of the port that it comes to and of the services that it visited
+-- a fact, where a packet is delivered, of the port that it comes to and of the services that it visited
 abbrev pub WhereDelivered : (PortNo → List ServiceNo → Type 0) → Outcome → Type 0
 WhereDelivered Says (Delivered q services) = Says q services
 WhereDelivered Says (Dropped why) = ⊤
 
--- this is said of the network that a packet's source port stood in, and of the one that its destination lay in, alone
--- among the first and those that were related to it
+-- a fact of the network that a packet's source port stood in, and of the one that its destination lay in, alone among
+-- the first and those that were related to it
 abbrev pub OfItsNetworks : List Config → Packet → (InstanceId → InstanceId → Type 0) → Type 0
 OfItsNetworks cs p Says =
     (from to : InstanceId) → InSome cs (λ c. StandsIn c p.source from) → LayInAlone cs from to p.destination → Says from to
@@ -101,7 +101,7 @@ pub record PassesAsPermitted (cs : List Config) (p : Packet) (o : Outcome) : Typ
   pub exactly : IsPermitted cs p o
   pub led_on : IsLedOn cs p o
 
--- this holds of each packet, at a moment
+-- a fact of each packet, at a moment
 abbrev pub OfEachPacket : (List Config → Packet → Outcome → Type 0) → List Config → MachineState → Type 0
 OfEachPacket Passes cs w = (p : Packet) → Passes cs p (forwarding (forwarders w) p)
 
