@@ -55,7 +55,7 @@ cell false Opened Hello = Some Up
 cell false Up (Carries d) = Some Up
 cell _ _ _ = None
 
--- no message of some, taken in turn, meets a cell that goes down
+-- no message among some, taken in turn, meets a cell that goes down
 abbrev pub NoneGoesDown : Bool → Phase → List Message → Type 0
 NoneGoesDown peering phase [] = Unit {0}
 NoneGoesDown peering phase (m ∷ ms) =
