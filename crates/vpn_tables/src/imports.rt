@@ -2,7 +2,7 @@
 ghost use Rattle.std.specs.Prelude.{◌≡◌, ◌==◌, [], Some, map};
 ghost use Rattle.std.specs.List.{cons_option, list_any};
 ghost use Rattle.route_targets.specs.Numbers.{hop_of, target_of};
-ghost use Rattle.path_select.specs.NodeModel.Uses.{hop_imports, imports, network_imports};
+ghost use Rattle.path_select.specs.NodeModel.Uses.{hop_imports, imports};
 
 use crate::chains::Side;
 use crate::tables::VpnTables;

@@ -3,7 +3,7 @@ ghost use Rattle.std.specs.Prelude.{◌≡◌, ◌==◌, ◌++◌, [], ◌∷◌
 ghost use Rattle.std.specs.List.{filter_map};
 ghost use Rattle.std.specs.FinMap.{entries};
 ghost use Rattle.path_select.specs.NodeModel.Keys.{of_up};
-ghost use Rattle.path_select.specs.NodeModel.Maps.{Map, objects};
+ghost use Rattle.path_select.specs.NodeModel.Maps.{objects};
 ghost use Rattle.path_select.specs.NodeModel.Paths.{own_path, own_paths};
 ghost use Rattle.path_select.specs.NodeModel.Reaching.{below};
 ghost use Rattle.path_select.specs.NodeModel.Tables.{known_instances, network_of};

@@ -1,5 +1,5 @@
 //! What a control node holds.
-ghost use Rattle.std.specs.Prelude.{◌≡◌, Some, true, OnOk, OnErr, IfSome, option_copied};
+ghost use Rattle.std.specs.Prelude.{◌≡◌, true, OnOk, OnErr, IfSome, option_copied};
 ghost use Rattle.control_silent_agent_laws.specs.Quiet.{PublishesNothing};
 ghost use Rattle.ov_sync.specs.Keyed.{PutOf, IsPut};
 ghost use Rattle.path_select.specs.NodeModel.Maps.{object};
