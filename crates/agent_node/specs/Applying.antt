@@ -49,7 +49,7 @@ pub record HasLed (keys : List RowKey) (h h' : Hearing) : Type 0 where
   pub rows_same : (k : RowKey) → is_among keys k ≡ false
       → get (down_of h.held) (Row k.0 k.1) ≡ get (down_of h'.held) (Row k.0 k.1)
 
--- of all ends that of the session alone holds something else, and that but for these routes the same
+-- only the end of the session holds something else, and it holds the same but for these routes
 pub record AreLed (keys : List RowKey) (session : ℕ) (posts posts' : List Post) : Type 0 where
   pub held : Map
   pub left : posts' ≡ slice_set posts session (record (post posts session) { held = held })
@@ -61,7 +61,7 @@ pub record HasKeptRoutes (h h' : Hearing) : Type 0 where
   pub state : h'.session.state ≡ h.session.state
   pub rows_same : (k : RowKey) → get (down_of h.held) (Row k.0 k.1) ≡ get (down_of h'.held) (Row k.0 k.1)
 
--- of all ends that of the session alone holds something else, and that the same routes
+-- only the end of the session holds something else, and it holds the same routes
 pub record HaveKeptRoutes (session : ℕ) (posts posts' : List Post) : Type 0 where
   pub held : Map
   pub left : posts' ≡ slice_set posts session (record (post posts session) { held = held })
@@ -78,7 +78,7 @@ pub record HasListed (n : Networks) (h h' : Hearing) : Type 0 where
       → find low_key_cmp q (objects (down_of h.held)) ≡ find low_key_cmp q (objects (down_of h'.held))
   pub rows_same : (k : RowKey) → get (down_of h.held) (Row k.0 k.1) ≡ get (down_of h'.held) (Row k.0 k.1)
 
--- of all ends that of the session alone holds something else, and that the same but for this access list
+-- only the end of the session holds something else, and it holds the same but for this access list
 pub record AreListed (n : Networks) (session : ℕ) (posts posts' : List Post) : Type 0 where
   pub held : Map
   pub left : posts' ≡ slice_set posts session (record (post posts session) { held = held })
@@ -91,7 +91,7 @@ is_in_use [] session = false
 is_in_use (p ∷ posts) zero = is_up p.phase
 is_in_use (p ∷ posts) (suc session) = if is_up p.phase then false else is_in_use posts session
 
--- of all ends that of the session alone holds something else, and that the same routes; the slice in use is as it was
+-- only the end of the session holds something else, and it holds the same routes; the slice in use is as it was
 pub record HaveKeptSlice (session : ℕ) (posts posts' : List Post) : Type 0 where
   pub held : Map
   pub left : posts' ≡ slice_set posts session (record (post posts session) { held = held })

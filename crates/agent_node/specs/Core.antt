@@ -9,11 +9,11 @@ pub use Rattle.node_core.specs.Resting.{is_idle, is_up, may_send, nothings}
 use Rattle.node_core.specs.NodeModel.Step.{NodeKind, Post}
 use Rattle.agent_node.specs.declared.plan.AgentPlan.{AgentPlan}
 
--- its ends are those of the control nodes, in the order in which it lists them
+-- an agent as it is seen: its ends are those of the control nodes, in the order in which it lists them
 pub record Core : Type 0 where
   pub plan : AgentPlan
   pub posts : List Post
-  -- of each session, the octets of a record that is not whole yet
+  -- the octets of a record that is not whole yet, of each session
   pub kept : List (List ℕ)
   pub rows : AgentRows
   pub failed : Bool

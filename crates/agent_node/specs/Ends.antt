@@ -21,7 +21,7 @@ pub record Ends : Type 0 where
   pub plan : AgentPlan
   pub posts : List Post
 
--- the same, with what the agent forwards by
+-- the ends of an agent's sessions, with what the agent forwards by
 pub record Forwarding : Type 0 where
   pub plan : AgentPlan
   pub posts : List Post

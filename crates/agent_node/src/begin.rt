@@ -90,7 +90,7 @@ fn routes_of(alloc: Global, records: &[Item]) -> Result<Option<Vec<(InstanceId, 
     Ok(Some(routes))
 }
 
-/// The same, of the records of a session that stays opened or up; else none.
+/// The routes that the records of a session put or drop, where it stays opened or up and the records do nothing else.
 fn routes_alone(
     alloc: Global,
     before: ItemState,
@@ -143,7 +143,8 @@ fn list_of(item: &Item) -> Option<(InstanceId, InstanceId)>
     }
 }
 
-/// The same, of the one record of a session that stays up; else none.
+/// The networks of the access list that the one record of a session puts or drops, where the session stays up and the
+/// record does nothing else.
 fn list_alone(
     before: ItemState,
     after: ItemState,
@@ -183,13 +184,13 @@ fn slice_stays(routes_stay: bool, in_use: bool) -> bool
 /// What octets came to at an end.
 #[derive(Drop)]
 struct Taken {
-    /// How many of them were taken: all but those of a record that is not whole.
+    /// How many octets were taken: all but those of a record that is not whole.
     taken: usize,
-    /// Why they took the session down, where they did.
+    /// Why the octets took the session down, where they did.
     cause: Option<ItemCause>,
-    /// The routes that they put or dropped, where they did nothing else.
+    /// The routes that the records put or dropped, where they did nothing else.
     routes: Option<Vec<(InstanceId, Prefix)>>,
-    /// Whether they put and dropped no route, and left the session as it was.
+    /// Whether the records put and dropped no route, and left the session as it was.
     routes_stay: bool,
     /// The networks of the access list that they put or dropped, where they did nothing else.
     list: Option<(InstanceId, InstanceId)>,

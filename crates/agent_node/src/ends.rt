@@ -159,7 +159,7 @@ impl AgentEnds {
         shut(&mut self.hearings[index], &mut self.sents[index]);
     }
 
-    /// Where its memory comes from.
+    /// Where the ends take memory from.
     pub(crate) fn alloc(&self) -> Global {
         self.alloc
     }
@@ -178,7 +178,7 @@ impl AgentEnds {
         AgentTables::of(self.alloc, &self.hearings)
     }
 
-    /// Each of these routes is that of the first session that is up and has it from now on.
+    /// Sets each of some routes to that of the first session that is up and has it.
     pub(crate) fn set_routes(
         &self,
         tables: &mut AgentTables,

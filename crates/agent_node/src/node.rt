@@ -63,6 +63,7 @@ impl AgentNode {
     {
         let ends = TabledEnds::new(alloc, plan)?;
         let flows = FlowCache::new(alloc)?;
+        // (for its clauses: there are as many ends as sessions, fewer than 65,536)
         let _sessions = ends.sessions();
         let node = NodeCore::new(alloc, ends)?;
         Ok(AgentNode { node, flows })
@@ -80,6 +81,7 @@ impl AgentNode {
         requires { session < sessions self.now.plan }
         ensures { result ≡ not (is_idle (post self.now.posts session).phase) }
     {
+        // (for its clauses: there are as many ends as sessions, fewer than 65,536)
         let _sessions = self.node.ends.sessions();
         self.node.is_live(session)
     }
@@ -89,6 +91,7 @@ impl AgentNode {
         requires { session < sessions self.now.plan }
         ensures { result ≡ is_up (post self.now.posts session).phase }
     {
+        // (for its clauses: there are as many ends as sessions, fewer than 65,536)
         let _sessions = self.node.ends.sessions();
         self.node.is_up(session)
     }
@@ -100,6 +103,7 @@ impl AgentNode {
         ensures few { result ≤ 65539 }
         ensures closed { is_idle (post self.now.posts session).phase ≡ true → result ≡ 0 }
     {
+        // (for its clauses: there are as many ends as sessions, fewer than 65,536)
         let _sessions = self.node.ends.sessions();
         self.node.pending(session)
     }
@@ -116,6 +120,7 @@ impl AgentNode {
     pub fn restart(&mut self)
         ensures { self.new ≡ fresh self.old.plan }
     {
+        // (for its clauses: there are as many ends as sessions, fewer than 65,536)
         let _sessions = self.node.ends.sessions();
         self.node.restart();
         self.node.ends.forget();
@@ -129,7 +134,7 @@ impl AgentNode {
         self.flows.entries()
     }
 
-    /// What it forwards by: its labels, its access lists and its routes, each in the order of their keys.
+    /// What the agent forwards by: its labels, its access lists and its routes, each in the order of their keys.
     pub fn rows(&self) -> Result<AgentRows, NoMemory>
         ensures shown { IfOk result (λ rows. rows ≡ self.now.rows) }
         ensures held { self.now.failed ≡ false → self.now.rows ≡ rows_of (holdings self.now.posts) }
@@ -163,6 +168,7 @@ impl AgentNode {
         ensures failed { (self.new.failed ≡ true) ↔ (result ≡ Err NodeFault.NoMemory) }
         ensures until_restart { self.old.failed ≡ true → result ≡ Err NodeFault.NoMemory }
     {
+        // (for its clauses: there are as many ends as sessions, fewer than 65,536)
         let _sessions = self.node.ends.sessions();
         let stepped = self.node.step(input, links);
         if self.node.failed {

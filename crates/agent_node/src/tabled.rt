@@ -198,6 +198,7 @@ impl Ends for TabledEnds {
     }
 
     fn begin(&mut self, input: Input<'_>) -> Result<Started<ItemCause>, NoMemory> {
+        // (for its clauses: there are as many ends as sessions, fewer than 65,536)
         let _before = self.ends.sessions();
         let current = self.current;
         let told = self.told;

@@ -21,7 +21,7 @@ abbrev pub entries_of : Option (UpKey × LabelNo) → List (Key × Value)
 entries_of None = []
 entries_of (Some e) = (of_up e.0, Label e.1) ∷ []
 
--- with an entry in its place, where there is one
+-- a list with an entry in its place, where there is one
 abbrev pub with_entry : {K V : Type 0} → (K → K → Ordering) → List (K × V) → Option (K × V) → List (K × V)
 with_entry R es None = es
 with_entry R es (Some e) = insert_entry R es e.0 e.1

@@ -34,18 +34,18 @@ abbrev pub kept : List (Block × Entry) → Block → Entry → List (Block × E
 kept routes prefix entry =
     if is_some (lookup (is_at (block_cmp prefix)) routes) then routes else insert_entry block_cmp routes prefix entry
 
--- the same in the table of its instance, where that has one
+-- the tables, with one route more in the table of its instance, where that has one
 abbrev pub kept_in : List Table → InstanceId → Block → Entry → List Table
 kept_in [] i prefix entry = []
 kept_in (t ∷ ts) i prefix entry =
     if t.0.0 == i.0 then (t.0, kept t.1 prefix entry) ∷ ts else t ∷ kept_in ts i prefix entry
 
--- with all of these, in turn
+-- the tables with all of some routes, in turn
 abbrev pub kept_all : List Table → List ((InstanceId × Block) × Entry) → List Table
 kept_all ts [] = ts
 kept_all ts (r ∷ rs) = kept_all (kept_in ts r.0.0 r.0.1 r.1) rs
 
--- with one, where there is one
+-- the tables with a route, where there is one
 abbrev pub kept_where : List Table → Option ((InstanceId × Block) × Entry) → List Table
 kept_where ts None = ts
 kept_where ts (Some r) = kept_in ts r.0.0 r.0.1 r.1

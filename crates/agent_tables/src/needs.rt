@@ -23,7 +23,7 @@ pub(crate) fn needed(alloc: Global, slice: &[SliceObject<'_>]) -> Result<Vec<Ins
     Ok(needed)
 }
 
-/// Those of one object: of a port or a circuit its own, of an access list each that it enters.
+/// Appends the instances that an object needs: the own one of a port or a circuit, and each that an access list enters.
 fn need(needed: &mut Vec<InstanceId>, object: &SliceObject<'_>) -> Result<(), NoMemory>
     ensures { OnOk result (needed.new.items ≡ needed.old.items ++ needed_for object.now.value.now) }
 {
@@ -78,7 +78,7 @@ fn is_among(instances: &[InstanceId], instance: InstanceId) -> bool
     false
 }
 
-/// Whether all of these instances are among the others.
+/// Whether all of some instances are among others.
 pub(crate) fn are_among(others: &[InstanceId], instances: &[InstanceId]) -> bool
     ensures { result ≡ list_all (λ i. is_listed others.now i) instances.now }
 {
@@ -90,7 +90,7 @@ pub(crate) fn are_among(others: &[InstanceId], instances: &[InstanceId]) -> bool
     true
 }
 
-/// Whether each instance that these rules enter is among the others.
+/// Whether each instance that some rules enter is among given ones.
 fn enter_only(others: &[InstanceId], rules: &[AclRule]) -> bool
     ensures { result ≡ list_all (λ i. is_listed others.now i) (filter_map (λ r. entered_by r.action) rules.now) }
 {
@@ -104,7 +104,7 @@ fn enter_only(others: &[InstanceId], rules: &[AclRule]) -> bool
     true
 }
 
-/// Whether a list, where there is one, makes the agent need instances among the others alone.
+/// Whether an access list, where there is one, makes the agent need only instances that are among given ones.
 pub(crate) fn needs_only(others: &[InstanceId], list: Option<&LowValue>) -> bool
     ensures { IsTrue result → list_all (λ i. is_listed others.now i) (needed_at (option_copied list.entry)) ≡ true }
 {

@@ -202,8 +202,8 @@ impl AgentTables {
         self.acls = acls;
     }
 
-    /// Each of these routes is that of the first session that is up and has it from now on, and there is none where none
-    /// has it; those of instances without a table do not count. Nothing else changes.
+    /// Sets each of some routes to that of the first session that is up and has it, or to none where none has it.
+    /// Routes of instances without a table do not count. Nothing else changes.
     pub fn set_routes(
         &mut self,
         sessions: &[Hearing],

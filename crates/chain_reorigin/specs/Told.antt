@@ -14,6 +14,6 @@ told_key p = record { rd = p.rd; prefix = p.prefix }
 abbrev pub told_path : Path → VpnKey × VpnRoute
 told_path p = (told_key p, record { next_hop = p.next_hop; label = p.label; targets = p.targets })
 
--- those of a control node, in the order of their keys. Where some have one key, the first counts
+-- the re-originated routes of a control node, in the order of their keys. Where some have one key, the first counts
 abbrev pub reoriginated : Holdings → List (VpnKey × VpnRoute)
 reoriginated h = entries (from_entries {R = vpn_order} (map told_path (reoriginated_paths h)))

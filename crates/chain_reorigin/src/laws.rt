@@ -19,7 +19,7 @@ pub fn the_first_of_each_key_is_told()
     ensures ascending { (h : Holdings) → IsStrictlySortedBy vpn_order (map (λ e. e.0) (reoriginated h)) }
 {}
 
-/// Of each held use the right subnets' routes stand before the left ones', and so count before them.
+/// The routes of the right subnets of each held use stand before those of the left ones, and so count before them.
 pub fn the_right_side_stands_first()
     ensures { (h : Holdings) (u : Use) → Member u (uses h.feed) → RightFirst h u }
 {}

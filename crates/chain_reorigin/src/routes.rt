@@ -1,4 +1,4 @@
-//! Of each key one route, in the order of the keys.
+//! The routes of chains that a control node tells its peers: one for each key, in the order of the keys.
 ghost use Rattle.std.specs.Prelude.{◌≡◌, IfOk, OnOk, map};
 ghost use Rattle.std.specs.FinMap.{entries, from_entries};
 ghost use Rattle.std.specs.List.Sorted.{IsStrictlySortedBy};
@@ -30,7 +30,7 @@ pub fn reoriginated(alloc: Global, tables: &VpnTables) -> Result<Vec<(VpnKey, Vp
     Ok(routes)
 }
 
-/// Of each key the first route.
+/// The first route of each key.
 fn first_of_each(alloc: Global, mut led: Vec<Route>) -> Result<BTreeMap<VpnKey, Route>, NoMemory>
     ensures { IfOk result (λ first. map_of vpn_order first.entries ≡ from_entries (map keyed led.items)) }
 {

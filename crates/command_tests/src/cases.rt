@@ -48,7 +48,7 @@ fn is_number_of(status: Status, wanted: &[u8], told: &mut TextOut) -> Result<boo
     Ok(told.octets() == wanted)
 }
 
-/// Whether the same is told of another run.
+/// Whether a case and another run come to the same.
 fn holds_as(
     alloc: Global,
     case: Case,

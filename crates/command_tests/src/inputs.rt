@@ -7,7 +7,7 @@ use std::alloc::{AllocError, Global};
 #[derive(Clone, Copy)]
 pub(crate) enum Input<'a> {
     Spelled(&'a str),
-    /// So many of what these words name.
+    /// A number of things of the kind that the words name.
     Made(usize, &'a str),
 }
 

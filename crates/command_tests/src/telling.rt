@@ -19,15 +19,15 @@ pub(crate) struct Run<'a> {
 /// What is told of a run behind its status.
 #[derive(Clone, Copy)]
 pub(crate) enum Telling<'a> {
-    /// Its lines.
+    /// The lines of the run.
     Lines,
-    /// How many octets it writes.
+    /// How many octets the run writes.
     Octets,
-    /// How many lines it writes.
+    /// How many lines the run writes.
     LineCount,
-    /// Those of its lines that are rows of the node with this name.
+    /// The lines of the run that are rows of the node with this name.
     RowsOf(&'a str),
-    /// The network that it leaves.
+    /// The network that the run leaves.
     Network,
     /// What the control node with this name asks of its peers in that network.
     AskedBy(&'a str),

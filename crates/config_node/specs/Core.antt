@@ -11,11 +11,11 @@ pub use Rattle.node_core.specs.Resting.{is_idle, is_up, may_send, nothings}
 use Rattle.node_core.specs.NodeModel.Step.{NodeKind, Post}
 use Rattle.config_node.specs.MachineModel.Setup.{low_in}
 
--- its ends are those of the control nodes, in the order of the topology
+-- the configuration node as it is seen: its ends are those of the control nodes, in the order of the topology
 pub record Core : Type 0 where
   pub setup : Checked
   pub posts : List Post
-  -- of each session, the octets of a record that is not whole yet
+  -- the octets of a record that is not whole yet, of each session
   pub kept : List (List ℕ)
   pub failed : Bool
 

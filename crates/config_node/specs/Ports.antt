@@ -11,7 +11,7 @@ use Rattle.node_core.specs.NodeModel.Keys.{Key}
 use Rattle.node_core.specs.NodeModel.Values.{Value}
 use Rattle.node_core.specs.NodeModel.Wants.{slice_entry}
 
--- the same with other ports
+-- a configuration with other ports
 abbrev pub with_ports : Checked → List Port → Checked
 with_ports x ports = record { topology = x.topology; config = record x.config { ports = ports } }
 

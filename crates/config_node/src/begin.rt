@@ -23,9 +23,9 @@ use std::alloc::Global;
 /// What octets came to at an end.
 #[derive(Drop)]
 struct Taken {
-    /// How many of them were taken: all but those of a record that is not whole.
+    /// How many octets were taken: all but those of a record that is not whole.
     taken: usize,
-    /// Why they took the session down, where they did.
+    /// Why the octets took the session down, where they did.
     cause: Option<ItemCause>,
 }
 

@@ -174,7 +174,7 @@ fn port_change(before: &[Port], now: &[Port]) -> Option<PortChange>
     Some(change)
 }
 
-/// The same of two configurations.
+/// The one port in which two configurations differ, where they differ in one alone.
 fn config_change(before: &Config, now: &Config) -> Option<PortChange>
     ensures { IfSome result (λ change. DifferInOne before.now.ports now.now.ports change.old change.new) }
 {

@@ -106,6 +106,7 @@ impl Ends for ConfigEnds {
     }
 
     fn begin(&mut self, input: Input<'_>) -> Result<Started<ItemCause>, NoMemory> {
+        // (for its clauses: there are as many ends as sessions, fewer than 65,536)
         let _before = self.sessions();
         let started = self.apply(input);
         let _after = self.sessions();
@@ -179,6 +180,7 @@ impl ConfigEnds {
         ensures config_form { IsTrue (has_config_form self.now.setup.config) }
         ensures valid { first_broken self.now.setup.topology self.now.setup.config ≡ None }
     {
+        // (for its clauses: the configuration is valid and of the written form)
         let _topology = self.valid.topology();
         &self.valid
     }

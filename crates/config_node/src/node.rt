@@ -37,6 +37,7 @@ fn set_and_tell<L: Link>(
     ensures sessions { length ends.new.posts ≡ length ends.old.posts }
 {
     ends.set_valid(valid)?;
+    // (for its clauses: there are as many ends as sessions, fewer than 65,536)
     let _sessions = ends.sessions();
     let lowest = tell(ends, links, 0, &[])?;
     Ok(lowest)
@@ -73,6 +74,7 @@ impl ConfigNode {
         ensures { IfOk result (λ node. node ≡ fresh valid) }
     {
         let ends = ConfigEnds::new(alloc, valid)?;
+        // (for its clauses: there are as many ends as sessions, fewer than 65,536)
         let _sessions = ends.sessions();
         let node = NodeCore::new(alloc, ends)?;
         Ok(ConfigNode { node })
@@ -100,6 +102,7 @@ impl ConfigNode {
         requires { session < sessions self.now.setup }
         ensures { result ≡ not (is_idle (post self.now.posts session).phase) }
     {
+        // (for its clauses: there are as many ends as sessions, fewer than 65,536)
         let _sessions = self.node.ends.sessions();
         self.node.is_live(session)
     }
@@ -109,6 +112,7 @@ impl ConfigNode {
         requires { session < sessions self.now.setup }
         ensures { result ≡ is_up (post self.now.posts session).phase }
     {
+        // (for its clauses: there are as many ends as sessions, fewer than 65,536)
         let _sessions = self.node.ends.sessions();
         self.node.is_up(session)
     }
@@ -120,6 +124,7 @@ impl ConfigNode {
         ensures few { result ≤ 65539 }
         ensures closed { is_idle (post self.now.posts session).phase ≡ true → result ≡ 0 }
     {
+        // (for its clauses: there are as many ends as sessions, fewer than 65,536)
         let _sessions = self.node.ends.sessions();
         self.node.pending(session)
     }
@@ -135,6 +140,7 @@ impl ConfigNode {
     pub fn restart(&mut self)
         ensures { self.new ≡ fresh self.old.setup }
     {
+        // (for its clauses: there are as many ends as sessions, fewer than 65,536)
         let _sessions = self.node.ends.sessions();
         self.node.restart();
     }
@@ -165,6 +171,7 @@ impl ConfigNode {
         ensures failed { (self.new.failed ≡ true) ↔ (result ≡ Err NodeFault.NoMemory) }
         ensures until_restart { self.old.failed ≡ true → result ≡ Err NodeFault.NoMemory }
     {
+        // (for its clauses: there are as many ends as sessions, fewer than 65,536)
         let _sessions = self.node.ends.sessions();
         self.node.step(input, links)
     }

@@ -21,6 +21,7 @@ pub(crate) fn wanted(alloc: Global, valid: &Valid) -> Result<Objects, NoMemory>
     ensures wanted { IfOk result (λ objects. low_of objects.entries ≡ low_in valid.now) }
     ensures fits { AllFit (low_in valid.now) }
 {
+    // (for its clauses: the configuration is valid and of the written form)
     let _config = valid.config();
     let objects = low(alloc, valid)?;
     let wants = first_of_each(alloc, objects.into_vec())?;

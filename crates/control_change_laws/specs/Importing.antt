@@ -26,7 +26,7 @@ use Rattle.vpn_tables.specs.Listing.{hops}
 use Rattle.vpn_tables.specs.Moved.{map_at, told_on}
 
 -- ---- rows
--- one of these targets is that of an instance that is imported here
+-- an instance imports here an instance that has one of these targets
 pub record ImportsOneOf (h : Holdings) (targets : List Target) (i : InstanceId) : Type 0 where
   pub import : InstanceId
   pub imported : Member import (imports h.feed i)

@@ -46,8 +46,8 @@ pub fn an_attachment_changes_itself_and_its_networks_lists()
 {}
 
 /// A change of a peer's route, or of a publication, changes of what an agent is to be told rows alone of tables that
-/// change and that it subscribed. A change of an object changes besides these at most that object and, where it is a port, held access lists of
-/// its network, as above.
+/// change and that it subscribed. A change of an object changes besides these at most what
+/// `an_attachment_changes_itself_and_its_networks_lists` says.
 pub fn rows_change_with_their_tables()
     ensures route { (h : Holdings) (session : ℕ) (d : Delta VpnKey VpnRoute) (agent : ℕ) (k : Key)
         → ((i : InstanceId) (q : Block) → k ≡ Row i q

@@ -82,7 +82,8 @@ pub fn a_route_changes_what_it_touches()
         → get (wanted_by_peers h) (Vpn k) ≡ get (wanted_by_peers (with_route h session d)) (Vpn k) }
 {}
 
-/// So does a change of an agent's publication.
+/// A change of an agent's publication changes tables and what agents are to be told at touched rows alone, and what
+/// peers are to be told at touched keys alone.
 pub fn a_publication_changes_what_it_touches()
     ensures tables { (h : Holdings) (session : ℕ) (d : Delta UpKey LabelNo) (j : InstanceId) (prefix : Block)
         → AreShort h.feed → key_of d ≡ Up.Publish j prefix

@@ -31,7 +31,7 @@ Ascend low high (n ∷ ns) = (low ≤ n) × ((n < high) × Ascend (suc n) high n
 abbrev pub AreRetired : ControlPlan → Type 0
 AreRetired plan = Ascend (1 + length plan.peers) (sessions plan) plan.retired
 
--- the same sessions, of which these are retired
+-- a plan with the same sessions, of which these are retired
 abbrev pub with_retired : ControlPlan → List ℕ → ControlPlan
 with_retired plan retired = record plan { retired = retired }
 
@@ -63,7 +63,7 @@ joined n agent = record n {
 }
 
 -- ---- an agent that goes
--- its number is retired, between those below it and those above it
+-- ascending numbers, with one that is retired between those below it and those above it
 abbrev pub inserted : List ℕ → ℕ → List ℕ
 inserted numbers n = filter (λ m. nat_lt m n) numbers ++ n ∷ filter (λ m. nat_lt n m) numbers
 
@@ -78,7 +78,7 @@ departed n session = record n {
   kept = slice_set n.kept session [];
 }
 
--- its end is closed, and nothing is replied
+-- the end of the agent that goes is closed, and nothing is replied
 abbrev pub closing : Beginning
 closing = record { replies = []; after = None }
 

@@ -68,7 +68,7 @@ BeginsBy false = ItemBegins
 abbrev pub Begins : ControlPlan → ℕ → Post → Input → Beginning → Option NodeCause → Type 0
 Begins plan i = BeginsBy (is_peer plan i) plan i
 
--- ---- the same, where these octets were kept of the session before, and what is kept of it then
+-- ---- an input where octets were kept of the session before, and what is kept of it then
 abbrev pub PeerKeeps : ControlPlan → ℕ → Post → List ℕ → Input → Beginning → Option NodeCause → List ℕ → Type 0
 PeerKeeps plan i p kept input given cause left =
     (c : Option PeerCause) × (cause ≡ option_map Cause.Peer c)

@@ -17,7 +17,8 @@ pub record IsBegun (plan : ControlPlan) (posts : List Post) (session : ℕ) (inp
   pub begins : BeginsKeeping plan session (post posts session) [] input given cause left
   pub begun : HasBegun posts session given replies posts'
 
--- the same, but that the end is still to be closed where there is a cause
+-- an input was applied to the end of its session, of which nothing was kept, and these octets of it are left; the end
+-- is still to be closed where there is a cause
 pub record IsHeard (plan : ControlPlan) (posts : List Post) (session : ℕ) (input : Input) (replies : List (List ℕ))
     (cause : Option NodeCause) (left : List ℕ) (posts' : List Post) : Type 0 where
   pub given : Beginning

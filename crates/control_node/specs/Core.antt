@@ -9,11 +9,11 @@ pub use Rattle.node_core.specs.Resting.{nothings}
 use Rattle.node_core.specs.NodeModel.Step.{Post, post}
 use Rattle.control_node.specs.declared.plan.ControlPlan.{ControlPlan}
 
--- its ends are the feed's, then the peers', then the agents'
+-- a control node as it is seen: its ends are the feed's, then the peers', then the agents'
 pub record Core : Type 0 where
   pub plan : ControlPlan
   pub posts : List Post
-  -- of each session, the octets of a message that is not whole yet
+  -- the octets of a message that is not whole yet, of each session
   pub kept : List (List ℕ)
   pub failed : Bool
 
@@ -25,7 +25,7 @@ abbrev pub is_peer : ControlPlan → ℕ → Bool
 is_peer plan i = nat_lt 0 i && nat_le i (length plan.peers)
 
 -- ---- what it holds, from its ends
--- of the agents from a session on, what each told
+-- what each of the agents from a session on told
 abbrev pub told_from : ℕ → List NodeId → List Post → List Told
 told_from session [] posts = []
 told_from session (a ∷ agents) [] =

@@ -4,7 +4,7 @@ use Rattle.control_wants.specs.Held.{HoldingsFit}
 use Rattle.node_core.specs.NodeModel.Paths.{Holdings}
 use Rattle.control_node.specs.Ends.{seat}
 
--- the same sessions are held, and what is held still fits
+-- what is held has as many sessions as before, and still fits
 pub record StaysHeld (h h' : Holdings) : Type 0 where
   pub asn : h'.asn ≡ h.asn
   pub peers : length h'.peers ≡ length h.peers

@@ -28,7 +28,7 @@ abbrev pub changed_by : Map → Option Change → Map
 changed_by m None = m
 changed_by m (Some c) = changed m c
 
--- and after the changes of a session that stays up
+-- a map after the changes of a session, which count where the session stays up
 abbrev pub taken : {C : Type 0} → Option C → List Change → Map → Map
 taken None changes m = after m changes
 taken (Some cause) changes m = m

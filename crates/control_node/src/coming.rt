@@ -64,6 +64,7 @@ impl ControlNode {
         ensures err { OnErr result (self.new ≡ self.old) }
     {
         let number = self.number();
+        // (for its clauses: there are as many ends as sessions, fewer than 65,536)
         let _sessions = self.node.ends.sessions();
         seat(&mut self.node, number, &agent)?;
         drop_first(&mut self.retired);

@@ -63,9 +63,9 @@ pub(crate) struct ControlEnds {
     /// What may have changed of what sessions are to be told, since the last pass.
     pub(crate) dirty: Dirty,
     pub(crate) feed: ItemSession,
-    /// Of session 1, 2 and so on.
+    /// The ends of the peers: session 1, 2 and so on.
     pub(crate) peers: Vec<PeerEnd>,
-    /// Of the sessions after those of the peers.
+    /// The ends of the agents: the sessions after those of the peers.
     pub(crate) agents: Vec<AgentEnd>,
     pub(crate) alloc: Global,
 }
@@ -122,6 +122,7 @@ impl Ends for ControlEnds {
     }
 
     fn begin(&mut self, input: Input<'_>) -> Result<Started<NodeCause>, NoMemory> {
+        // (for its clauses: there are as many ends as sessions, fewer than 65,536)
         let _before = self.sessions();
         let applied = self.apply(input);
         let _after = self.sessions();

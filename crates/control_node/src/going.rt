@@ -17,7 +17,7 @@ use ov_link::{Link, Links, NodeFault};
 use ov_types::NoMemory;
 use std::alloc::{AllocError, Global};
 
-/// The numbers below one.
+/// The numbers of a list that are below a given one.
 fn below(alloc: Global, numbers: &[u16], number: u16) -> Result<Vec<u16>, AllocError>
     ensures { IfOk result (λ found. found.items ≡ filter (λ m. nat_lt m number) numbers.now) }
 {
@@ -28,7 +28,7 @@ fn below(alloc: Global, numbers: &[u16], number: u16) -> Result<Vec<u16>, AllocE
         .collect(alloc)
 }
 
-/// The numbers above one.
+/// The numbers of a list that are above a given one.
 fn above(alloc: Global, numbers: &[u16], number: u16) -> Result<Vec<u16>, AllocError>
     ensures { IfOk result (λ found. found.items ≡ filter (λ m. nat_lt number m) numbers.now) }
 {
@@ -39,7 +39,7 @@ fn above(alloc: Global, numbers: &[u16], number: u16) -> Result<Vec<u16>, AllocE
         .collect(alloc)
 }
 
-/// The numbers with this one, in ascending order.
+/// Numbers with one more, in ascending order.
 fn with_number(alloc: Global, numbers: &[u16], number: u16) -> Result<Vec<u16>, NoMemory>
     ensures { IfOk result (λ all. all.items ≡ inserted numbers.now number) }
 {
@@ -179,6 +179,7 @@ impl ControlNode {
         ensures links { length links.new ≡ length links.old }
         ensures failed { self.new.failed ≡ self.old.failed }
     {
+        // (for its clauses: there are as many ends as sessions, fewer than 65,536)
         let _sessions = self.node.ends.sessions();
         let retired = with_number(self.node.ends.alloc(), &self.retired, session)?;
         let lowest = close_and_tell(&mut self.node, session, links)?;
@@ -228,6 +229,7 @@ impl ControlNode {
         ensures departed { OnOk result (self.new ≡ departed self.old session) }
         ensures err { OnErr result (self.new ≡ self.old) }
     {
+        // (for its clauses: there are as many ends as sessions, fewer than 65,536)
         let _sessions = self.node.ends.sessions();
         let retired = with_number(self.node.ends.alloc(), &self.retired, session)?;
         forget(&mut self.node, session);
@@ -246,6 +248,7 @@ impl ControlNode {
         ensures links { length links.new ≡ length links.old }
         ensures failed { self.new.failed ≡ self.old.failed }
     {
+        // (for its clauses: there are as many ends as sessions, fewer than 65,536)
         let _sessions = self.node.ends.sessions();
         tell_all(&mut self.node, links)
     }

@@ -17,7 +17,7 @@ pub fn the_least_retired_number_is_taken()
         ≡ (is_retired plan session && not (session == number_for plan)) }
 {}
 
-/// Of all sessions that one alone becomes retired whose agent goes.
+/// The session of an agent that goes becomes retired, and no other session does.
 pub fn one_number_is_retired()
     ensures { (plan : Plan) (session number : ℕ)
         → is_retired (retiring plan session) number ≡ (number == session || is_retired plan number) }

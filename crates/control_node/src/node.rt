@@ -99,6 +99,7 @@ impl ControlNode {
         requires { session < sessions self.now.plan }
         ensures { result ≡ not (is_idle (post self.now.posts session).phase) }
     {
+        // (for its clauses: there are as many ends as sessions, fewer than 65,536)
         let _sessions = self.node.ends.sessions();
         self.node.is_live(session)
     }
@@ -108,6 +109,7 @@ impl ControlNode {
         requires { session < sessions self.now.plan }
         ensures { result ≡ is_up (post self.now.posts session).phase }
     {
+        // (for its clauses: there are as many ends as sessions, fewer than 65,536)
         let _sessions = self.node.ends.sessions();
         self.node.is_up(session)
     }
@@ -126,6 +128,7 @@ impl ControlNode {
         ensures few { result ≤ 65539 }
         ensures closed { is_idle (post self.now.posts session).phase ≡ true → result ≡ 0 }
     {
+        // (for its clauses: there are as many ends as sessions, fewer than 65,536)
         let _sessions = self.node.ends.sessions();
         self.node.pending(session)
     }
@@ -134,6 +137,7 @@ impl ControlNode {
     pub fn restart(&mut self)
         ensures { self.new ≡ fresh self.old.plan }
     {
+        // (for its clauses: there are as many ends as sessions, fewer than 65,536)
         let _sessions = self.node.ends.sessions();
         self.node.restart();
     }
@@ -181,6 +185,7 @@ impl ControlNode {
         ensures failed { (self.new.failed ≡ true) ↔ (result ≡ Err NodeFault.NoMemory) }
         ensures until_restart { self.old.failed ≡ true → result ≡ Err NodeFault.NoMemory }
     {
+        // (for its clauses: there are as many ends as sessions, fewer than 65,536)
         let _sessions = self.node.ends.sessions();
         self.node.step(input, links)
     }

@@ -39,7 +39,7 @@ impl ControlEnds {
         session < self.sessions()
     }
 
-    /// Another agent gets the session of an agent.
+    /// Gives the session of one agent to another.
     fn seat_again(&mut self, session: u16, place: usize, agent: &NodeId) -> Result<(), NoMemory>
         requires among { place < length self.old.plan.agents }
         requires session { session ≡ suc (length self.old.plan.peers + place) }

@@ -118,7 +118,7 @@ pub record Covers (d d' : Marks) (h h' : Holdings) : Type 0 where
 abbrev pub Covered : Marks → Marks → Holdings → Holdings → Type 0
 Covered d d' h h' = d'.all ≡ false → Covers d d' h h'
 
--- these rows are marked of the agents that subscribe them, and these keys of peers
+-- some rows are marked for the agents that subscribe them, and some keys for peers
 abbrev pub AreRowsMarked : Marks → List (InstanceId × Block) → Type 0
 AreRowsMarked d rows =
     d.all ≡ false → (i : InstanceId) (q : Block) → Member (i, q) rows → (a : Told)

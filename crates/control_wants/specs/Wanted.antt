@@ -39,7 +39,7 @@ AreRoutesWanted d h (Marked es) = (d.all ≡ false) × AreRoutes d h es.items
 abbrev pub keys_of : Told → List (DownKey × Whom) → List DownKey
 keys_of a items = map (λ e. e.0) (filter (λ e. is_of a e.0 e.1) items)
 
--- with each key stands what is wanted of it on a session
+-- what is wanted of each key on a session stands beside the key
 abbrev pub AreEachWanted : Holdings → ℕ → List (DownKey × Option DownValue) → Type 0
 AreEachWanted h session es =
     AllByRecursion (λ e. option_map down_value e.1 ≡ get (wanted_on h session) (of_down e.0)) es

@@ -22,7 +22,7 @@ use vpn_tables::VpnTables;
 #[derive(Drop)]
 pub enum RoutesWanted {
     Whole(BTreeMap<VpnKey, VpnRoute>),
-    /// Of marked keys, in order.
+    /// The routes of marked keys, in order.
     Marked(Vec<(VpnKey, Option<VpnRoute>)>),
 }
 

@@ -185,6 +185,7 @@ impl Dirty {
         ensures within { IsWithin self.old self.new }
         ensures covers { Covered self.old self.new tables.old tables.new }
     {
+        // (for its clause: no held use has more than 15 services)
         tables.uses_are_short();
         mark_own(self, tables, session, &key_of(&delta));
         match mark_publication(self, tables, session, &delta) {
@@ -212,6 +213,7 @@ impl Dirty {
         ensures within { IsWithin self.old self.new }
         ensures covers { Covered self.old self.new tables.old tables.new }
     {
+        // (for its clause: no held use has more than 15 services)
         tables.uses_are_short();
         self.add_route(key_of(&delta));
         match mark_route(self, tables, session, &delta) {

@@ -1,4 +1,4 @@
-//! Of which agents a key is marked.
+//! The agents for which a key is marked.
 ghost use Rattle.std.specs.Prelude.{◌≡◌, true};
 ghost use Rattle.ov_types.specs.declared.keys.DownKey.{DownKey as DownKeyOf};
 ghost use Rattle.vpn_tables.specs.NodeModel.Paths.{Told};
@@ -16,7 +16,7 @@ pub enum Whom {
     Only(Addr),
 }
 
-/// These agents, with those of which the key is marked already.
+/// The agents for which a key is marked, once these are marked too.
 pub(crate) fn joined(before: Option<Whom>, whom: Whom) -> Whom
     ensures keeps { (a : Told) (key : DownKeyOf) → is_marked a key before ≡ true → is_of a key result ≡ true }
     ensures adds { (a : Told) (key : DownKeyOf) → is_of a key whom ≡ true → is_of a key result ≡ true }

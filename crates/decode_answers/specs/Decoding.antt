@@ -102,8 +102,8 @@ abbrev pub decode_verdict : Option (List ℕ) → Reception
 decode_verdict None = NotJson
 decode_verdict (Some octets) = Good
 
--- of octets that are spelled `decode` writes a report, which begins before any OPEN, and of a text that spells none one
--- line
+-- `decode` writes a report of the octets that a text spells, which begins before any OPEN, and one line where the text
+-- spells none
 abbrev pub WritesSpelled : Option (List ℕ) → List ℕ → Type 0
 WritesSpelled None text = text ≡ codes "not hex" ++ (10 ∷ [])
 WritesSpelled (Some octets) text = IsReport false octets text

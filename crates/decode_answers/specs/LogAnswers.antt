@@ -24,7 +24,7 @@ abbrev pub graceful_verdict : Taken Log → Reception
 graceful_verdict (Ok log) = Good
 graceful_verdict (Err answer) = answer.verdict
 
--- of a log `graceful` writes what its entries answer, of which the first has the number 1, and nothing came before it
+-- `graceful` writes what the entries of a log answer, of which the first has the number 1, and nothing came before it
 abbrev pub WritesLog : Taken Log → List ℕ → Type 0
 WritesLog (Ok log) text = IsLogText [] 1 log.entries text
 WritesLog (Err answer) text = text ≡ answer.text

@@ -11,7 +11,7 @@ ghost use Rattle.ov_io.specs.Pieces.{HasWriteCause, TookFrontOf, TookText};
 
 use crate::digits::octets_of;
 use bgp_vpn::{Routes, UpdateFault, VpnUpdate, read_routes};
-use bgp_wire::{Message, UpdatePart, WireFault, read_message};
+use bgp_wire::{Message, UpdatePart, read_message};
 use compile_answers::Reception;
 use ov_io::{Sink, TextOut, WriteRefusal, write_all, write_gathered, write_piece};
 use ov_sync::Delta;
@@ -60,9 +60,9 @@ fn push_changes(
 
 /// What was told of a message.
 enum Told {
-    /// All that it says.
+    /// All that the message says.
     Whole,
-    /// That it has a fault.
+    /// That the message has a fault.
     Faulty,
 }
 

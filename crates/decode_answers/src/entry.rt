@@ -6,7 +6,7 @@ use ov_types::Items;
 pub enum LogEntry {
     /// The session was opened, by this OPEN of the peer: the octets of one whole message.
     Opened(Items<u8>),
-    /// This UPDATE came: the octets of one whole message.
+    /// An UPDATE came: the octets of one whole message.
     Updated(Items<u8>),
     /// The session was closed.
     Closed,

@@ -70,7 +70,7 @@ pub fn entries_have_one_member()
     ensures other { OtherIsUnknown entry_at (codes "opened" ∷ codes "update" ∷ []) }
 {}
 
-/// Another text in place of an entry than one of its words is out of range; what is neither text nor object is of
+/// A text that is none of the words of an entry is out of range in its place; what is neither text nor object is of
 /// another kind.
 #[tactic(auto, using(crate::proofs::NoEntry::other_word, crate::proofs::NoEntry::no_entry))]
 pub fn other_values_are_no_entries()

@@ -1,12 +1,12 @@
 //! Reading logs.
-ghost use Rattle.std.specs.Prelude.{◌≡◌, [], true, IfOk};
+ghost use Rattle.std.specs.Prelude.{[], true, IfOk};
 ghost use Rattle.std.specs.List.{AllByRecursion};
 ghost use Rattle.serde_json.specs.View.{view};
 ghost use Rattle.config_model.specs.Paths.{place_text};
 ghost use Rattle.config_model.specs.Faults.{Gives};
 ghost use Rattle.decode_answers.specs.Entries.{HasEntryForm};
-ghost use Rattle.decode_answers.specs.LogReading.{octets_in, octets_at, opened_at, updated_at, entry_from};
-ghost use Rattle.decode_answers.specs.LogReading.{entry_named, entry_of_text, entry_at, log_at};
+ghost use Rattle.decode_answers.specs.LogReading.{octets_at, opened_at, updated_at, entry_from};
+ghost use Rattle.decode_answers.specs.LogReading.{entry_of_text, entry_at, log_at};
 
 use crate::entry::LogEntry;
 use crate::one_message::{is_one_open, is_one_update};

@@ -1,5 +1,5 @@
 //! Writing what a log answers: what each entry answers is handed on where enough is gathered.
-ghost use Rattle.std.specs.Prelude.{◌≡◌, [], IfOk, OnOk, OnErr};
+ghost use Rattle.std.specs.Prelude.{[], OnOk, OnErr};
 ghost use Rattle.std.specs.List.{AllByRecursion};
 ghost use Rattle.ov_io.specs.Pieces.{HasWriteCause, TookFrontOf, TookText};
 ghost use Rattle.bgp_restart.specs.Keeping.{StandsFor};

@@ -11,7 +11,7 @@ enum Spelling {
     Backslash,
     /// A backslash and an `x`.
     Digits,
-    /// These, and a digit of this value.
+    /// A backslash, an `x`, and a digit of this value.
     Digit(u8),
 }
 

@@ -28,7 +28,7 @@ abbrev pub forward_packet : Config → Flow → Option Packet
 forward_packet c f =
     option_map (λ q. record { source = f.source; destination = q.address; tuple = f.tuple }) (port_numbered c f.target.0)
 
--- its reply: from its target to the address of its source, with the two ports of its tuple exchanged
+-- a flow's reply: from its target to the address of its source, with the two ports of its tuple exchanged
 abbrev pub reply_packet : Config → Flow → Option Packet
 reply_packet c f =
     option_map (λ q. record { source = f.target; destination = q.address; tuple = answering f.tuple })
@@ -58,7 +58,7 @@ pub record PermitsOneWay (c : Config) (f : Flow) : Type 0 where
   pub decides : deciding c own target f.tuple ≡ Some decider
   pub one_way : decider.rule.rule.direction ≡ OneWay
 
--- the same, asked of a flow whose forward packet is delivered
+-- the rule that decides between the two networks of a flow is of one direction
 abbrev pub speaks_one_way : Option Match → Bool
 speaks_one_way None = false
 speaks_one_way (Some m) = not (speaks_both_ways m.rule.rule.direction)

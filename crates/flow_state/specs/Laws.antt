@@ -52,7 +52,8 @@ pub record IsReplyUse (c : Config) (flows : List Flow) (p : Packet) (f : Flow) :
   pub stands : Contains flows f
   pub reply : reply_packet c f ≡ Some p
 
--- of uses, the last first: since the last use of a flow fewer other flows than there is room for were used
+-- since the last use of a flow, in a list of uses with the last first, fewer other flows than there is room for were
+-- used
 pub record WasUsedLast (capacity : ℕ) (uses : List Flow) (f : Flow) : Type 0 where
   pub newer : List Flow
   pub older : List Flow

@@ -58,6 +58,7 @@ fn know_answers(valid: &Valid, capacity: u16, steps: &[FlowStep])
     requires { IsTrue (list_all has_step_form steps.now) }
     ensures { AreAnswered capacity (at_start valid.now) steps.now (answers capacity steps.now (at_start valid.now)) }
 {
+    // (for its clauses: the configuration is valid and of the written form)
     let _config = valid.config();
     replays_are_answered();
 }
@@ -84,6 +85,7 @@ pub fn answer_flows<K: Sink>(
                 steps,
             },
         ) => {
+            // (for its clause: what the steps of a replay are answered)
             know_answers(&valid, capacity, steps.as_slice());
             write_replay(alloc, valid, capacity, steps.as_slice(), sink)?;
             Ok(Reception::Good)

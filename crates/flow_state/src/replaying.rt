@@ -15,7 +15,7 @@ use config_check::Valid;
 use ov_io::{Sink, TextOut, WriteRefusal, write_gathered, write_piece};
 use std::alloc::Global;
 
-/// Writes what these steps answer, the first of them with the number 1.
+/// Writes what some steps answer, the first of them with the number 1.
 fn write_steps<K: Sink>(
     alloc: Global,
     player: &mut Player,

@@ -27,7 +27,7 @@ impl Model for FlowTable {
 }
 
 impl FlowTable {
-    /// An empty table for so many flows.
+    /// An empty table with room for a number of flows.
     pub fn new(alloc: Global, capacity: u16) -> Result<FlowTable, NoMemory>
         requires { 0 < capacity }
         ensures { IfOk result (λ t. t ≡ record { capacity = capacity; flows = [] }) }

@@ -17,7 +17,7 @@ pub record Standing : Type 0 where
   pub checked : Checked
   pub ties : Ties
 
--- the same, with the ties as the entries that are kept of them
+-- what is configured after some edits, with the ties as the entries that are kept of them
 pub record Held : Type 0 where
   pub checked : Checked
   pub kept : Kept

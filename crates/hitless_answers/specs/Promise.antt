@@ -36,7 +36,7 @@ abbrev pub IsSaidOf : Standing → Edit → Judgement → Type 0
 IsSaidOf s e (Refused fault) = fault_in e s ≡ Some fault
 IsSaidOf s e (Made lines) = IsMade s e lines
 
--- of edits one after the other, each of what the accepted ones before it made
+-- what is said of edits one after the other, each of what the accepted ones before it made
 abbrev pub AreSaidOf : Standing → List Edit → List Judgement → Type 0
 AreSaidOf s [] [] = ⊤
 AreSaidOf s [] (j ∷ js) = ⊥
@@ -53,7 +53,7 @@ abbrev pub ReadsSo : Config → ℕ → Judgement → Type 0
 ReadsSo c n (Refused fault) = IsUtf8 (tied_fault_text fault) → IsReadBack (refused_value n fault)
 ReadsSo c n (Made lines) = AreReadBack c n lines
 
--- of edits one after the other, the first with a number
+-- the JSON of what is said of edits one after the other, the first with a number, reads as what it says
 abbrev pub AllReadSo : ℕ → List Edit → Standing → List Judgement → Type 0
 AllReadSo n [] s js = ⊤
 AllReadSo n (e ∷ es) s [] = ⊤

@@ -55,6 +55,7 @@ fn know_judgements(valid: &Valid, edits: &[Edit])
     ensures said { AreSaidOf (standing_first valid.now) edits.now (judgements edits.now (standing_first valid.now)) }
     ensures read { AllReadSo 1 edits.now (standing_first valid.now) (judgements edits.now (standing_first valid.now)) }
 {
+    // (for its clause: the configuration is valid and of the written form)
     know_written(valid);
 }
 
@@ -75,6 +76,7 @@ pub fn answer_hitless<K: Sink>(
 {
     match read_question::<AskedEdits>(alloc, octets) {
         Ok(AskedEdits { valid, edits }) => {
+            // (for its clause: what is said of the edits)
             know_judgements(&valid, edits.as_slice());
             write_hitless(alloc, form, valid, edits.as_slice(), sink)?;
             Ok(Reception::Good)

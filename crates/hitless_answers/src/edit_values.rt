@@ -59,7 +59,7 @@ fn difference_word(difference: Difference) -> &'static str
     }
 }
 
-/// The other port, and `null` where there is none.
+/// The port that the packet is delivered to after, where it is another, and else `null`.
 fn other_port_value(
     alloc: Global,
     config: &Config,

@@ -43,6 +43,7 @@ impl Model for Judge {
 pub(crate) fn know_written(valid: &Valid)
     ensures { IsValidAsWritten valid.now }
 {
+    // (for its clauses: the configuration is valid and of the written form)
     let _config = valid.config();
 }
 
@@ -59,6 +60,7 @@ fn interrupted_by(
     requires made { after.now ≡ edited edit.now before.now }
     ensures { IfOk result (λ lines. lines ≡ interruptions before.now (edited edit.now before.now)) }
 {
+    // (for its clause: the configuration is valid and of the written form)
     know_written(before);
     if !replaces(before, edit) {
         return Ok(Items::new(alloc));
@@ -67,7 +69,7 @@ fn interrupted_by(
 }
 
 impl Judge {
-    /// Before the first edit.
+    /// The judge before the first edit, of a valid configuration.
     #[tactic(auto, using(crate::proofs::Standing::starts))]
     pub(crate) fn new(alloc: Global, valid: Valid) -> Result<Judge, NoMemory>
         ensures { IfOk result (λ j. standing j ≡ standing_first valid) }

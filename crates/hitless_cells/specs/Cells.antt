@@ -23,7 +23,7 @@ is_near c own target = same_name target.name own.name || are_related c own targe
 abbrev pub corner : Region → Tuple
 corner r = record { proto = min r.protocols.lo 255; sport = r.source_ports.lo; dport = r.destination_ports.lo }
 
--- of one configuration with two of its networks, and of another with two of its own
+-- two networks are near in one configuration, and two others in another
 abbrev pub are_near : Checked → Network → Network → Checked → Network → Network → Bool
 are_near x a b y c d = is_near x.config a b && is_near y.config c d
 

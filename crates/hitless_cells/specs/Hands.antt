@@ -29,8 +29,8 @@ pub record HasPortAt (c : Config) (number : InstanceId) (address : Addr) : Type 
   pub port_network : port.network ≡ home.name
   pub port_address : port.address ≡ address
 
--- of the networks that the one imports, in some of these configurations, none but the other has a port at the address, in any
--- of them
+-- no network but the second has a port at the address in any of these configurations, among those that the first
+-- imports in some of them
 abbrev pub KeepsInHand : List Checked → InstanceId → InstanceId → Addr → Type 0
 KeepsInHand xs from to address =
     (x y : Checked) (number : InstanceId) → Contains xs x → Contains xs y → ImportsNumber x.config from number

@@ -14,8 +14,8 @@ use Rattle.config_check.specs.Rules.{first_broken}
 use Rattle.reach_plain.specs.Reachability.{reachability}
 use Rattle.hitless_cells.specs.Ways.{LeadsTo, Offers, Track, Way}
 
--- these configurations keep a packet to a port by these ways: each leads it there by one of them, each of them is taken by
--- one, and each is offered by all with one track
+-- configurations keep a packet to a port by some ways: each leads it there by one of them, each way is taken by a
+-- configuration, and each is offered by all configurations with one track
 pub record Keep (xs : List Checked) (p : Packet) (number : PortNo) (ways : List Way) : Type 0 where
   pub leads : All (λ x. Any (λ way. LeadsTo x.config p number way) ways) xs
   pub taken : All (λ way. Any (λ x. LeadsTo x.config p number way) xs) ways

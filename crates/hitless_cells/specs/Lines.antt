@@ -104,7 +104,7 @@ comes_first t u =
     then (if t.sport == u.sport then nat_lt t.dport u.dport else nat_lt t.sport u.sport)
     else nat_lt t.proto u.proto
 
--- of two lines the one of the lesser tuple
+-- the one of two lines with the lesser tuple
 abbrev pub lesser : Option Interruption → Option Interruption → Option Interruption
 lesser None other = other
 lesser (Some l) None = Some l

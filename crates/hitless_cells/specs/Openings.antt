@@ -86,7 +86,7 @@ opened x own target course =
     if same_name target.name own.name then opened_within course else opened_between x own target course
 
 -- ---- what is otherwise
--- of two changes the greater
+-- the greater of two changes
 abbrev pub worse : Change → Change → Change
 worse Same other = other
 worse Place other = Place

@@ -1,15 +1,11 @@
 //! Cells: tuples that both configurations let through, on each of which their rules decide alike.
-ghost use Rattle.std.specs.Prelude.{◌≡◌, ◌++◌, flat_map, nat_le, length, IfOk, OnOk, IsTrue};
-ghost use Rattle.std.specs.List.{list_all};
-ghost use Rattle.ov_types.specs.First.{same_name};
+ghost use Rattle.std.specs.Prelude.{◌≡◌, ◌++◌, flat_map, IfOk, OnOk};
 ghost use Rattle.policy_rules.specs.Related.{are_related};
-ghost use Rattle.policy_regions.specs.Joined.{regions_between};
 ghost use Rattle.policy_regions.specs.Overlay.{overlay};
 ghost use Rattle.hitless_cells.specs.Cells.{are_near, cell_at, cells_of, cells_on, corner, is_near};
 
 use crate::course::{Course, course_on};
 use crate::openings::{Between, Opening, opening_of};
-use config_check::Valid;
 use config_types::{Config, Network};
 use ov_types::{NoMemory, Tuple};
 use policy_regions::{Compared, LastFound, Region, overlay};

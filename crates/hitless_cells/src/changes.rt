@@ -8,15 +8,15 @@ use config_types::Node;
 /// What is otherwise of a compute node, or of several.
 #[derive(Clone, Copy)]
 pub(crate) enum Change {
-    /// Nothing.
+    /// Nothing is otherwise.
     Same,
-    /// It listens to other control nodes.
+    /// The compute node listens to other control nodes.
     Listening,
-    /// It has another name or address.
+    /// The compute node has another name or address.
     Place,
 }
 
-/// Of two changes the greater.
+/// The greater of two changes.
 pub(crate) fn worse(change: Change, other: Change) -> Change
     ensures { result ≡ worse change other }
 {

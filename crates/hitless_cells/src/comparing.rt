@@ -123,6 +123,7 @@ fn ordered_lines(
 fn know_written(valid: &Valid)
     ensures { IsValidAsWritten valid.now }
 {
+    // (for its clauses: the configuration is valid and of the written form)
     let _config = valid.config();
 }
 
@@ -132,6 +133,7 @@ fn know_lines(before: &Valid, after: &Valid)
     ensures interrupted { All (IsInterrupted before.now after.now) (interruptions before.now after.now) }
     ensures each { EachHasLine before.now after.now (interruptions before.now after.now) }
 {
+    // (for its clause: the configuration is valid and of the written form)
     know_written(before);
     know_written(after);
 }
@@ -149,6 +151,7 @@ pub fn interruptions(
     ensures interrupted { IfOk result (λ lines. All (IsInterrupted before.now after.now) lines) }
     ensures each { IfOk result (λ lines. EachHasLine before.now after.now lines) }
 {
+    // (for its clause: what lines say of the packets that a change interrupts)
     know_lines(before, after);
     let lines = ordered_lines(alloc, before, after)?;
     Ok(Items::from_vec(lines))

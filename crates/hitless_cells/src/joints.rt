@@ -103,7 +103,7 @@ fn push_before(list: &mut Vec<Joint>, joint: &Joint, network: &Name) -> Result<(
     Ok(())
 }
 
-/// Those whose port before is of a network.
+/// The joints whose port before is of a network.
 pub(crate) fn of_network_before(
     alloc: Global,
     joints: &[Joint],
@@ -127,7 +127,7 @@ fn push_after(list: &mut Vec<Joint>, joint: &Joint, network: &Name) -> Result<()
     Ok(())
 }
 
-/// Those whose port after is of a network.
+/// The joints whose port after is of a network.
 pub(crate) fn of_network_after(
     alloc: Global,
     joints: &[Joint],

@@ -30,7 +30,7 @@ pub fn packets_are_led_where_they_are_delivered()
         → Delivers x p number ↔ ((way : Way) × LeadsTo x.config p number way) }
 {}
 
-/// It leads a packet to one port alone, by one way.
+/// A configuration leads a packet to one port alone, by one way.
 pub fn packets_are_led_by_one_way()
     ensures { (x : Checked) (p : Packet) (number other : PortNo) (way another : Way) → IsValidAsWritten x
         → LeadsTo x.config p number way → LeadsTo x.config p other another → (number ≡ other) × (way ≡ another) }
@@ -52,7 +52,7 @@ pub fn uses_are_offered_where_they_could_be_taken()
         → SpeaksOf own target r.rule mirrored ↔ ((t : Tuple) × IsTaken own target t r.rule mirrored) }
 {}
 
-/// It offers a way with one track alone.
+/// A configuration offers a way with one track alone.
 pub fn ways_are_offered_with_one_track()
     ensures { (x : Checked) (p : Packet) (number : PortNo) (way : Way) (one two : Track) → IsValidAsWritten x
         → Offers x p number way one → Offers x p number way two → one ≡ two }

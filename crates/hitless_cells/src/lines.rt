@@ -199,7 +199,7 @@ fn comes_first(tuple: &Tuple, other: &Tuple) -> bool
     tuple.dport < other.dport
 }
 
-/// Of two lines the one of the lesser tuple.
+/// The one of two lines that has the lesser tuple.
 fn lesser(line: Option<Interruption>, other: Option<Interruption>) -> Option<Interruption>
     ensures { result ≡ lesser line other }
 {

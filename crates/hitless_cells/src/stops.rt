@@ -1,5 +1,5 @@
 //! The services of a chain, each with its compute node.
-ghost use Rattle.std.specs.Prelude.{◌≡◌, ◌++◌, ◌≤◌, length, option_copied, IfOk, OnOk, flat_map};
+ghost use Rattle.std.specs.Prelude.{◌≡◌, ◌++◌, option_copied, IfOk, OnOk, flat_map};
 ghost use Rattle.reach_plain.specs.Outcomes.{numbers_of};
 ghost use Rattle.hitless_cells.specs.Openings.{service_node, service_numbered, stops_at, stops_of};
 

@@ -44,7 +44,7 @@ file_after_of (command ∷ words) = second_of (named_by words)
 abbrev pub CommandsAreNoRequests : Type 0
 CommandsAreNoRequests = (words : List (String Global)) (asked : Asked) → asked_of words ≡ Some asked → request_of words ≡ request.Run
 
--- and name a file
+-- words that are a command name a file
 abbrev pub CommandsNameFiles : Type 0
 CommandsNameFiles = (words : List (String Global)) (asked : Asked) → asked_of words ≡ Some asked → IsSome (file_of words)
 
@@ -52,10 +52,10 @@ CommandsNameFiles = (words : List (String Global)) (asked : Asked) → asked_of 
 abbrev pub DiffIsNoRequest : Type 0
 DiffIsNoRequest = (words : List (String Global)) → is_diff words ≡ true → request_of words ≡ request.Run
 
--- and name two files
+-- words that ask what differs name two files
 abbrev pub DiffNamesFiles : Type 0
 DiffNamesFiles = (words : List (String Global)) → is_diff words ≡ true → IsSome (file_of words) × IsSome (file_after_of words)
 
--- and are no other command
+-- words that ask what differs are no other command
 abbrev pub DiffIsNoOther : Type 0
 DiffIsNoOther = (words : List (String Global)) → is_diff words ≡ true → asked_of words ≡ None

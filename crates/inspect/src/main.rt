@@ -234,7 +234,7 @@ fn compare<R: Read + Drop, S: Read + Drop>(
     status
 }
 
-/// Opens the file of the document after a change, and compares that with the one before.
+/// Opens the file of the document after a change, and compares it with the document before the change.
 fn open_after<R: Read + Drop>(
     rt: &HostRuntime,
     words: &[String],

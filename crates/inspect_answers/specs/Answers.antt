@@ -43,7 +43,7 @@ verdict_of Received.NotJson = NotJson
 verdict_of Received.BadDocument = BadDocument
 verdict_of Received.Refused = Refused
 
--- the same answer, with a verdict
+-- an answer to a document, with the verdict on it
 abbrev pub judged : DocumentAnswer → Answer
 judged a = record { verdict = verdict_of a.verdict; text = a.text }
 
@@ -92,12 +92,12 @@ missing_of (Between from to) c = first_missing (missing c from) (missing c to)
 abbrev pub valid_answer : Form → Pairs → Config → Answer
 valid_answer form pairs c = judged (answer_checked (missing_of pairs c) (ways_in form pairs c))
 
--- of a topology and a configuration that were read, or not
+-- what `ways` answers to a topology and a configuration that were read, or not
 abbrev pub ways_reading : Form → Pairs → Result CompileInput Fault → Answer
 ways_reading form pairs (Err f) = judged (answer_bad f)
 ways_reading form pairs (Ok p) = answer_unless (first_broken p.topology p.config) (valid_answer form pairs p.config)
 
--- of a value
+-- what `ways` answers to a value
 unfoldable pub ways_value : Form → Pairs → Data → Answer
 ways_value form pairs d = ways_reading form pairs (compile_at [] d)
 
@@ -112,13 +112,13 @@ expected_answer form c packets = record {
   text = expect_in form c packets;
 }
 
--- of what was read for `expect`, or not
+-- what `expect` answers to what was read for it, or not
 abbrev pub expect_reading : Form → Result ExpectInput Fault → Answer
 expect_reading form (Err f) = judged (answer_bad f)
 expect_reading form (Ok r) =
     answer_unless (first_broken r.input.topology r.input.config) (expected_answer form r.input.config r.packets)
 
--- of a value
+-- what `expect` answers to a value
 unfoldable pub expect_value : Form → Data → Answer
 expect_value form d = expect_reading form (expect_at [] d)
 
@@ -131,7 +131,7 @@ abbrev pub unused_reading : Form → Result CompileInput Fault → Answer
 unused_reading form (Err f) = judged (answer_bad f)
 unused_reading form (Ok p) = answer_unless (first_broken p.topology p.config) (judged (answer_good (idle_in form p.config)))
 
--- of a value
+-- what `unused` answers to a value
 unfoldable pub unused_value : Form → Data → Answer
 unused_value form d = unused_reading form (compile_at [] d)
 
@@ -145,7 +145,7 @@ why_reading form (Err f) = judged (answer_bad f)
 why_reading form (Ok r) =
     answer_unless (first_broken r.input.topology r.input.config) (judged (answer_good (why_in form (checked_of r) r.packets)))
 
--- of a value
+-- what `why` answers to a value
 unfoldable pub why_value : Form → Data → Answer
 why_value form d = why_reading form (reach_at [] d)
 

@@ -39,7 +39,7 @@ to_document answer octets = of_json (to_value answer) (json_of octets)
 abbrev pub diff_answer : List ℕ → List ℕ → DocumentAnswer
 diff_answer before after = to_document (λ c. to_document (λ d. answer_good (diff_text c d)) after) before
 
--- the same, with the lines in the form that is asked for
+-- what `inspect diff` answers to two documents, with the lines in the form that is asked for
 abbrev pub diff_answer_in : Form → List ℕ → List ℕ → DocumentAnswer
 diff_answer_in form before after = to_document (λ c. to_document (λ d. answer_good (diff_in form c d)) after) before
 

@@ -67,7 +67,7 @@ expected_words =
     codes "dropped" ∷ codes "dropped no-source-port" ∷ codes "dropped no-destination" ∷ codes "dropped no-route"
     ∷ codes "dropped denied" ∷ []
 
--- another text is out of range, and what is no text and no object is of another kind, at its own path
+-- a text that is none of these is out of range, and what is no text and no object is of another kind, at its own path
 abbrev pub OtherIsNoExpectation : Type 0
 OtherIsNoExpectation = OtherTextIsRange expected_at (is_among expected_words)
 

@@ -65,7 +65,7 @@ unfoldable pub unmet_line : ℕ → Expected → Outcome → List ℕ
 unmet_line n expected outcome =
     decimal n ++ (codes " expected " ++ (expected_text expected ++ (codes " but " ++ (outcome_text outcome ++ (10 ∷ [])))))
 
--- the same in the form that is asked for
+-- the number of a packet, what is expected of it, and what comes, in the form that is asked for
 abbrev pub unmet_line_in : Form → Config → ℕ → Expected → Outcome → List ℕ
 unmet_line_in Text c n expected outcome = unmet_line n expected outcome
 unmet_line_in Json c n expected outcome = json_line (unmet_value c n expected outcome)
@@ -79,7 +79,7 @@ abbrev pub unmet_from : Form → Config → ℕ → List Expectation → List �
 unmet_from form c n [] = []
 unmet_from form c n (e ∷ es) = unmet_in form c n e ++ unmet_from form c (n + 1) es
 
--- of how many packets the outcome is otherwise
+-- how many packets have an outcome that is otherwise than is expected
 abbrev pub unmet_count : Config → List Expectation → ℕ
 unmet_count c packets = count_by (λ e. not (comes_so c e)) packets
 
@@ -88,7 +88,7 @@ unfoldable pub counts_line : ℕ → ℕ → List ℕ
 counts_line packets otherwise =
     codes "packets " ++ (decimal packets ++ (codes " otherwise " ++ (decimal otherwise ++ (10 ∷ []))))
 
--- the same in the form that is asked for
+-- how many packets there are, and of how many the outcome is otherwise, in the form that is asked for
 abbrev pub counts_in : Form → ℕ → ℕ → List ℕ
 counts_in Text packets otherwise = counts_line packets otherwise
 counts_in Json packets otherwise = json_line (counts_value packets otherwise)

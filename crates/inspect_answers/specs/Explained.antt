@@ -31,7 +31,7 @@ use Rattle.inspect_json.specs.declared.form.Form.TheVariants.{Text, Json}
 abbrev pub explained_text : ℕ → Outcome → List Cause → List ToldStep → List ℕ
 explained_text n outcome causes walk = outcome_line n outcome ++ (flat_map (cause_line n) causes ++ flat_map (step_line n) walk)
 
--- the same in the form that is asked for: as JSON in one line
+-- an outcome, what it comes of, and the walk, in the form that is asked for: as JSON in one line
 abbrev pub explained_in : Form → Config → ℕ → Outcome → List Cause → List ToldStep → List ℕ
 explained_in Text c n outcome causes walk = explained_text n outcome causes walk
 explained_in Json c n outcome causes walk = json_line (explained_value c n outcome causes walk)

@@ -12,11 +12,11 @@ use Rattle.inspect_answers.specs.Expectations.{expect_at}
 unfoldable pub ReadsInForm : {Input : Type 0} → (Data → Result Input Fault) → (Input → Config) → Data → Type 0
 ReadsInForm {Input} read config d = (input : Input) → read d ≡ Ok input → IsTrue (has_config_form (config input))
 
--- so has whatever octets are read as, if they are JSON
+-- whatever octets are read as has a configuration of the written form, if they are JSON
 unfoldable pub AreInForm : {Input : Type 0} → (Data → Result Input Fault) → (Input → Config) → List ℕ → Type 0
 AreInForm read config octets = (d : Data) → json_of octets ≡ Some d → ReadsInForm read config d
 
--- of what `ways` and `unused` take, and of what `expect` takes
+-- what octets are read as for `ways` and `unused`, and for `expect`, has a configuration of the written form
 abbrev pub AreWrittenInForm : List ℕ → Type 0
 AreWrittenInForm octets = AreInForm (compile_at []) (λ p. p.config) octets
 

@@ -23,7 +23,7 @@ abbrev pub OfInput : Option Asked → Option (List ℕ) → (Asked → List ℕ 
 OfInput None held Fact = ⊥
 OfInput (Some asked) held Fact = OfOctets held (Fact asked)
 
--- the same where something was asked
+-- a fact of what was asked and of its input, where something was asked
 abbrev pub IfInput : Option Asked → Option (List ℕ) → (Asked → List ℕ → Type 0) → Type 0
 IfInput None held Fact = ⊤
 IfInput (Some asked) held Fact = OfOctets held (Fact asked)

@@ -29,7 +29,8 @@ pub enum Which {
 #[derive(Clone, Copy)]
 pub struct Ending {
     pub status: Status,
-    /// The document that could not be read, is too long or is not fit. Where the status is of none, the one before.
+    /// The document that could not be read, is too long or is not fit. Where the status is of neither document, this is
+    /// the one before the change.
     pub which: Which,
 }
 

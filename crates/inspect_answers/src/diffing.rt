@@ -31,7 +31,7 @@ use std::alloc::Global;
 /// What two documents are found to be.
 #[derive(Clone, Copy)]
 pub enum Comparison {
-    /// Both are fit, and there is no line.
+    /// Both documents are fit, and there is no line.
     Same,
     Differs,
     UnfitBefore(Reception),

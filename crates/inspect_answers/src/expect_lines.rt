@@ -98,7 +98,7 @@ pub(crate) struct UnmetLines<'a> {
     pub(crate) expected: &'a Expected,
 }
 
-/// Appends the same as a line of JSON.
+/// Appends, as a line of JSON, an outcome that is otherwise than is expected.
 #[tactic(auto, using(crate::proofs::NoFloats::unmet))]
 fn append_unmet_json(
     alloc: Global,
@@ -134,7 +134,7 @@ fn append_counts_text(packets: usize, otherwise: usize, out: &mut TextOut) -> Re
     write!(out, "packets {packets} otherwise {otherwise}\n")
 }
 
-/// Appends the same as a line of JSON.
+/// Appends, as a line of JSON, how many packets there are, and of how many the outcome is otherwise.
 #[tactic(auto, using(crate::proofs::NoFloats::counts))]
 fn append_counts_json(
     alloc: Global,

@@ -5,14 +5,14 @@ use ov_types::{Items, Packet, PortNo, ServiceNo};
 /// What is expected to become of a packet.
 #[derive(Drop)]
 pub enum Expected {
-    /// It is dropped, for any reason.
+    /// The packet is dropped, for any reason.
     Dropped,
     NoSourcePort,
     NoDestination,
     NoRoute,
-    /// It is dropped by a deny rule, or because no rule matches.
+    /// The packet is dropped by a deny rule, or because no rule matches.
     Denied,
-    /// It is delivered to this port, through just these services in this order.
+    /// The packet is delivered to this port, through just these services in this order.
     Delivered {
         port: PortNo,
         services: Items<ServiceNo>,

@@ -205,7 +205,8 @@ fn write_over<K: Sink>(
     write_gathered(sink, &mut gathered)
 }
 
-/// Writes the same over the tables that the configuration was compiled to.
+/// Writes the outcome of each packet, what it comes of and its walk over the tables that the configuration was compiled
+/// to.
 #[tactic(auto, using(ov_io::proofs::PieceLemmas::took_nothing))]
 fn write_over_tables<K: Sink>(
     alloc: Global,

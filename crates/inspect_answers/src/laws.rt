@@ -27,7 +27,7 @@ pub fn expectations_have_just_their_members()
     ensures expect { ExpectHasJust }
 {}
 
-/// Another text than the five is no expectation, and is out of range; what is no text and no object is of another kind.
+/// A text other than the five is no expectation, and is out of range; what is no text and no object is of another kind.
 #[tactic(auto, using(crate::proofs::ExpectRead::other_is_none, crate::proofs::ExpectRead::nothing_else))]
 pub fn other_values_are_no_expectations()
     ensures text { OtherIsNoExpectation }
@@ -41,7 +41,7 @@ pub fn lines_of_expectations_read_as_their_values()
     ensures counts { (packets otherwise : ℕ) → packets < 2 ^ 64 → otherwise < 2 ^ 64 → IsReadBack (counts_value packets otherwise) }
 {}
 
-/// Two outcomes that are otherwise than is expected, of one value, are one, and so are two counts.
+/// Two outcomes that are otherwise than is expected, of one value, are one, and two counts of one value are one.
 #[tactic(auto, using(crate::proofs::ExpectReadBack::unmet_says, crate::proofs::ExpectReadBack::counts_says))]
 pub fn lines_of_expectations_say_one_thing()
     ensures unmet { (c d : Config) (n m : ℕ) (e f : Expectable) (o p : Outcome) → unmet_value c n e o ≡ unmet_value d m f p

@@ -90,7 +90,8 @@ pub record IsOnDifference (list : List Difference) (t : Tuple) (was becomes : Fa
   pub before : difference.was ≡ was
   pub after : difference.becomes ≡ becomes
 
--- these become of a tuple in the two configurations, and it is let through in one and not in the other, or by other services
+-- a tuple fares otherwise: these become of it in the two configurations, and it is let through in one and not in the
+-- other, or by other services
 pub record FaresOtherwise (c : Config) (a b : Network) (d : Config) (a' b' : Network) (t : Tuple) (was becomes : Fate) : Type 0 where
   pub before : fate_between c a b t ≡ was
   pub after : fate_between d a' b' t ≡ becomes

@@ -44,7 +44,7 @@ attached c a = filter (attaches a) c.policies
 abbrev pub same_policies : List Policy → List Policy → Bool
 same_policies ps qs = (length ps == length qs) && list_all (λ p. policy.ghosts.eq p.0 p.1) (zip ps qs)
 
--- of two networks of one name, in two configurations: they attach the same policies, by their names and by what these say
+-- two networks of one name, in two configurations, attach the same policies, by their names and by what these say
 abbrev pub attaches_alike : Config → Network → Config → Network → Bool
 attaches_alike c a d a' =
     same_name a.name a'.name

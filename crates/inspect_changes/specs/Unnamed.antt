@@ -12,7 +12,7 @@ use Rattle.inspect_changes.specs.Objects.{network_of, port_of}
 use Rattle.inspect_changes.specs.declared.fate.Difference.{Difference}
 use Rattle.inspect_changes.specs.declared.objects.Object.{Object}
 
--- of what went, nothing is a packet's network, the network or the port of its destination, or the port that it leaves
+-- nothing among what went is a packet's network, the network or the port of its destination, or the port that it leaves
 pub record IsUnnamed (went : List Object) (c : Config) (p : Packet) (a b : Network) (number : ℕ) : Type 0 where
   pub from : ¬ Contains went (network_of a)
   pub to : ¬ Contains went (network_of b)

@@ -16,7 +16,7 @@ pub enum Fate {
     Denied {
         rule: RuleNo,
     },
-    /// No rule matches it, so that it is dropped.
+    /// No rule matches the packet, so that it is dropped.
     Unmatched,
 }
 

@@ -40,8 +40,8 @@ pub fn differences_are_what_fares_otherwise()
         ↔ FaresOtherwise c a b d a' b' t was becomes }
 {}
 
-/// Of a packet that leaves a port of one network and has the address of a port of another, in two valid configurations:
-/// whether it is delivered to that port, or through which services, differs exactly where its tuple is on a difference
+/// Let a packet leave a port of one network and have the address of a port of another, in two valid configurations.
+/// Whether it is delivered to that port, or through which services, differs exactly where its tuple is on a difference
 /// between the two networks; and then it is delivered, or not, as the difference has it.
 pub fn differences_are_of_deliveries()
     ensures exact { (c d : Config) (a b a' b' : Network) (p : Packet) (number : ℕ)
@@ -67,10 +67,10 @@ pub fn unnamed_packets_go_on()
         → GoesOn d p a b number }
 {}
 
-/// Of a packet between ports of two networks that are not among what went from one valid configuration to another, both
-/// these and the ports: whether it is delivered to its port, or through which services, differs exactly where one of all
-/// differences of the two configurations is of these networks and holds it; and then it is delivered, or not, as that
-/// difference has it.
+/// Let a packet go between ports of two networks, where neither the networks nor the ports are among what went from one
+/// valid configuration to another. Whether it is delivered to its port, or through which services, differs exactly
+/// where one of all differences of the two configurations is of these networks and holds it; and then it is delivered,
+/// or not, as that difference has it.
 pub fn lines_are_of_deliveries()
     ensures exact { (c d : Config) (p : Packet) (a b : Network) (number : ℕ) (topology : Topology) → IsTrue (has_config_form d)
         → first_broken topology d ≡ None → GoesBetween c p a b number → IsUnnamed (gone c d) c p a b number

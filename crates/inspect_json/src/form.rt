@@ -1,6 +1,6 @@
 //! The form of lines.
 
-/// As what lines are written.
+/// The form in which lines are written.
 #[derive(Clone, Copy, PartialEq, Eq)]
 pub enum Form {
     Text,

@@ -85,7 +85,7 @@ pub fn names_are_of_the_numbers()
         → port_name c p.id.0 ≡ Some p.name }
 {}
 
-/// As text, what is written is the lines of ways, and those of what differs.
+/// In the form of text, what is written is the lines of ways, and the lines of what differs.
 #[tactic(auto, unfolding(crate::specs::WayLines::ways_in, inspect_changes::specs::Lines::ways_text, crate::specs::ChangeLines::diff_in, inspect_changes::specs::DifferenceLines::diff_text))]
 pub fn text_is_as_without_a_form()
     ensures ways { (pairs : Pairs) (c : Config) → ways_in Text pairs c ≡ ways_text pairs c }

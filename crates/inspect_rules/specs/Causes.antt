@@ -41,7 +41,8 @@ abbrev pub fails_forwards : Network → Network → Tuple → Rule → Option Co
 fails_forwards a b t r =
     first_failing (has_protocol r.protocol t.proto) (in_range r.source_ports t.sport) (in_range r.destination_ports t.dport) (fits r a b)
 
--- and where it is read mirrored, with the networks and the ports exchanged
+-- the first condition of a rule that a packet fails, where the rule is read mirrored, with the networks and the ports
+-- exchanged
 abbrev pub fails_mirrored : Network → Network → Tuple → Rule → Option Condition
 fails_mirrored a b t r =
     first_failing (has_protocol r.protocol t.proto) (in_range r.source_ports t.dport) (in_range r.destination_ports t.sport) (fits r b a)

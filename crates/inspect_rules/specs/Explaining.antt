@@ -26,20 +26,21 @@ abbrev pub IsNamed : Config → RuleNo → Option (List ℕ) → Type 0
 IsNamed c number None = ⊥
 IsNamed c number (Some name) = (q : Policy) × Contains c.policies q × (q.sequence ≡ number.sequence) × (q.name ≡ name)
 
--- of a rule's conditions on protocol, source ports, destination ports and direction, this is the first that fails
+-- the first condition that fails of a rule's conditions on protocol, source ports, destination ports and direction
 abbrev pub FailsFirst : Type 0 → Type 0 → Type 0 → Type 0 → Condition → Type 0
 FailsFirst P S D N Protocol = ¬ P
 FailsFirst P S D N SourcePorts = P × ¬ S
 FailsFirst P S D N DestinationPorts = P × (S × ¬ D)
 FailsFirst P S D N Direction = P × (S × (D × ¬ N))
 
--- this is the first condition of a rule that a packet from one network to another fails, where it is read forwards
+-- the first condition of a rule that a packet from one network to another fails, where it is read forwards
 abbrev pub FailsForwards : Network → Network → Tuple → Rule → Condition → Type 0
 FailsForwards a b t r condition =
     FailsFirst (IsProtocol r.protocol t.proto) (IsInRange r.source_ports t.sport) (IsInRange r.destination_ports t.dport) (Fits r a b)
     condition
 
--- and where it is read mirrored, with the networks and the ports exchanged, which a rule of one direction is not
+-- the first condition of a rule that a packet fails, where it is read mirrored, with the networks and the ports
+-- exchanged, which a rule of one direction is not
 abbrev pub FailsMirrored : Network → Network → Tuple → Rule → Option Condition → Type 0
 FailsMirrored a b t r None = r.direction ≡ OneWay
 FailsMirrored a b t r (Some condition) =
@@ -141,6 +142,6 @@ pub record HasNoCause (c : Config) (p : Packet) (xs : List Cause) : Type 0 where
   pub absent : HasNoSourcePort c p
   pub are : xs ≡ []
 
--- these causes explain the outcome of a packet
+-- some causes explain the outcome of a packet
 abbrev pub Explain : Config → Packet → List Cause → Type 0
 Explain c p xs = HasNoCause c p xs ⊎ (GoesNowhere c p xs ⊎ (StaysInside c p xs ⊎ GoesAcross c p xs))

@@ -89,7 +89,7 @@ fn push_policy(
     Ok(())
 }
 
-/// Those rules of policies that speak of packets between two networks.
+/// The rules of policies that speak of packets between two networks.
 fn rules_of(
     alloc: Global,
     from: &Network,

@@ -18,19 +18,19 @@ pub enum Cause {
     From {
         network: Name,
     },
-    /// Its destination is of this network.
+    /// The packet's destination is of this network.
     To {
         network: Name,
     },
-    /// A rule between the two is asked and does not match it, with the condition that fails first where the rule is read
-    /// forwards, and where a rule of both directions is read mirrored.
+    /// A rule between the two networks is asked and does not match the packet, with the condition that fails first
+    /// where the rule is read forwards, and where a rule of both directions is read mirrored.
     Skipped {
         rule: RuleNo,
         policy: Option<Name>,
         forwards: Condition,
         mirrored: Option<Condition>,
     },
-    /// A rule between the two decides on it, forwards or mirrored.
+    /// A rule between the two networks decides on the packet, forwards or mirrored.
     Decided {
         rule: RuleNo,
         policy: Option<Name>,
@@ -41,7 +41,7 @@ pub enum Cause {
         network: Name,
         policy: Name,
     },
-    /// Another network holds its destination, and is not related to the one that it leaves.
+    /// Another network holds the packet's destination, and is not related to the one that the packet leaves.
     Unrelated {
         network: Name,
     },

@@ -42,7 +42,7 @@ fn attaching<'a>(
     Ok(networks)
 }
 
-/// Those of networks that attach the policy of the rule of this number too.
+/// The networks among some that attach the policy of the rule of this number too.
 fn also_attaching<'a>(
     alloc: Global,
     config: &Config,
@@ -147,7 +147,7 @@ fn push_before(
     Ok(())
 }
 
-/// The rules of these that stand before a rule.
+/// The rules among some that stand before a rule.
 pub(crate) fn rules_before(
     alloc: Global,
     config: &Config,

@@ -80,8 +80,8 @@ abbrev pub EndAs : Outcome → List Step → Type 0
 EndAs outcome [] = IsDroppedBefore outcome
 EndAs outcome (s ∷ ss) = ended (s ∷ ss) [] ≡ Some outcome
 
--- these are the steps of a packet over agents that comes to an outcome: those of its trace, each of which takes its row,
--- begins where the one before leads, and the last of which ends as the outcome says
+-- the steps of a packet over agents that comes to an outcome: those of its trace, each of which takes its row, begins
+-- where the one before leads, and the last of which ends as the outcome says
 pub record IsWalk (agents : List Forwarder) (p : Packet) (outcome : Outcome) (ss : List Step) : Type 0 where
   pub traced : ss ≡ walk_over agents p
   pub each : All (IsStep agents p.destination.0) ss

@@ -59,7 +59,7 @@ told x s = record {
 unfoldable pub told_walk : Checked → Packet → List ToldStep
 told_walk x p = map (told x) (compiled_walk x p)
 
--- this is told of the walk of a packet over compiled tables, which comes to an outcome: of each step in order
+-- what is told of the walk of a packet over compiled tables, which comes to an outcome: of each step in order
 pub record TellsWalk (x : Checked) (p : Packet) (outcome : Outcome) (lines : List ToldStep) : Type 0 where
   pub steps : List Step
   pub walk : IsWalk (compiled_agents x) p outcome steps

@@ -116,8 +116,8 @@ fn prefix_around(address: Addr, len: u8) -> Prefix
     Prefix::new(Addr(start), len).unwrap()
 }
 
-/// Of the rows of an instance the one of the longest prefix that contains an address: a prefix of each length is looked
-/// for, the longest first.
+/// The row of an instance with the longest prefix that contains an address. A prefix of each length is looked for, the
+/// longest first.
 pub(crate) fn row_taken(
     rows: &[(RowKey, Entry)],
     instance: InstanceId,

@@ -15,7 +15,7 @@ use Rattle.machine_model.specs.Steps.{session_of}
 use Rattle.machine_model.specs.Rounds.{has_no_break}
 use Rattle.machine_model.specs.Events.{MachineEvent, Edits, Lose, Restart}
 
--- the same two nodes, in one order or the other
+-- two pairs are of the same two nodes, in one order or the other
 abbrev pub AreSamePair : Name → Name → Name → Name → Type 0
 AreSamePair a b c d = ((c ≡ a) × (d ≡ b)) ⊎ ((c ≡ b) × (d ≡ a))
 

@@ -122,7 +122,7 @@ rows_in feed i = map (λ e. ((i, e.0), e.1)) (entries (compiled_table feed i))
 abbrev pub control_rows : Map → List Row
 control_rows feed = flat_map (rows_in feed) (known_instances feed)
 
--- of what concerns an address: its labels, its access lists, and the rows of the instances that it needs
+-- what concerns an address: its labels, its access lists, and the rows of the instances that it needs
 abbrev pub agent_rows : Map → Addr → AgentRows
 agent_rows feed address = record {
   labels = filter_map (λ e. attached e.0 e.1) (slice feed address);

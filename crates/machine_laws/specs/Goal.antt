@@ -38,7 +38,7 @@ role_in (Some n) = Agent
 abbrev pub role_of : Setup → Name → Role
 role_of x name = if same_name name config then Configuration else role_in (node_named x.topology name)
 
--- those with which a node has sessions, in their order
+-- the parties with which a node has sessions, in their order
 abbrev pub other_end : Name → NodePair → Option Party
 other_end name p =
     if same_name p.0.0 name then Some p.1 else if same_name p.1.0 name then Some p.0 else None
@@ -118,6 +118,6 @@ pub record IsLaid (x : Setup) (places : List NodePair) : Type 0 where
   -- each agent has a session with the first control node that it lists
   pub first : (n : Name) (c : Node) → node_named x.topology n ≡ Some c → role_of x n ≡ Agent
       → (m : Name) × (rest : List Name) × (c.controllers ≡ m ∷ rest) × Member (m, Controller) (others n places)
-  -- and it lists control nodes alone
+  -- each agent lists control nodes alone
   pub listed : (n : Name) (c : Node) → node_named x.topology n ≡ Some c → (m : Name) → Member m c.controllers
       → role_of x m ≡ Controller

@@ -45,7 +45,7 @@ ControlNodesShowTables w =
     is_settled w ≡ true → (n : NodeId) → Member n w.setup.topology.controllers
     → shown w n.name ≡ Rows.Control (control_rows w.setup.topology w.setup.config)
 
--- and the agent of each compute node the rows of its address
+-- once every session is up and nothing is in flight, the agent of each compute node shows the rows of its address
 abbrev pub AgentsShowRows : MachineState → Type 0
 AgentsShowRows w =
     is_settled w ≡ true → (n : Node) → Member n w.setup.topology.nodes

@@ -28,6 +28,6 @@ ShowsCompiled w =
 abbrev pub SettlesInTime : (Name → Message → ℕ) → MachineState → Type 0
 SettlesInTime size w = SettlesIn (longest w.setup + 5) size w
 
--- and `settle` always does, in at most six more
+-- `settle` always ends settled, in at most six rounds more than the longest chain in effect has services
 abbrev pub SettleSettles : MachineState → Type 0
 SettleSettles w = (is_settled (settle w).1 ≡ true) × ((settle w).0 ≤ longest w.setup + 6)

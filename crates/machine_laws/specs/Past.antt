@@ -44,7 +44,7 @@ passing = record {
   action = Pass;
 }
 
--- with the subnet of two addresses that begins there
+-- a network with the subnet of two addresses that begins there
 abbrev pub network : List ℕ → ℕ → ℕ → List (List ℕ) → NetworkOf
 network name number first policies = record {
   name = name;

@@ -33,7 +33,7 @@ pub record StandsIn (c : Config) (number : PortNo) (network : InstanceId) : Type
   pub number_is : port.id ≡ number
   pub network_is : home.id ≡ network
 
--- it has two networks of these numbers, and a rule that lets packets through stands between them
+-- a configuration has two networks of these numbers, and a rule that lets packets through stands between them
 pub record AreRelatedIn (c : Config) (a b : InstanceId) : Type 0 where
   pub first : Network
   pub second : Network

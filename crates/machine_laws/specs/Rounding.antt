@@ -47,7 +47,7 @@ pub record IsDueBetween (e f : SessionEnd) (d : Due) : Type 0 where
   pub one : f.notice ≡ true → d.count ≡ 1
   pub all : f.notice ≡ false → d.count ≡ length e.flight
 
--- of each session in turn, from its earlier node to its later one and then back, and nothing else
+-- what is due of each session in turn, from its earlier node to its later one and then back, and nothing else
 abbrev pub AreDue : List Session → List Due → Type 0
 AreDue [] [] = Unit {0}
 AreDue (s ∷ ss) (d ∷ b ∷ ds) = IsDueBetween s.near s.far d × IsDueBetween s.far s.near b × AreDue ss ds

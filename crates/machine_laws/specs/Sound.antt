@@ -36,7 +36,7 @@ pub record IsSound (feed : Map) : Type 0 where
   pub ports_apart : (s : Side) (subnet : Block) (a : Attachment) → Member s (sides feed)
       → Member subnet (subnets s) → Member a (attachments feed) → a.instance ≡ network (other s)
       → is_inside a.prefix subnet ≡ false
-  -- of what an instance imports no two attachments have one prefix
+  -- no two attachments that an instance imports have one prefix
   pub one_host : (i : InstanceId) (a b : Attachment) → Member a (attachments feed) → Member b (attachments feed)
       → Member a.instance (imports feed i) → Member b.instance (imports feed i) → a.prefix ≡ b.prefix → a ≡ b
 

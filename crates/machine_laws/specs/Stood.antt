@@ -1,4 +1,4 @@
--- The same with no word of ties: what stood in a configuration so far.
+-- What stood in a configuration so far, said with no word of ties.
 use Rattle.std.specs.Prelude.{◌≡◌, ◌⊎◌, ℕ, IsTrue, List, Some}
 use Rattle.ov_types.specs.declared.numbers.InstanceId.{InstanceId}
 use Rattle.ov_types.specs.declared.numbers.PortNo.{PortNo}

@@ -73,7 +73,7 @@ module _ (t : Ties) where
       ⊎ ((a : InstanceId) × (b : InstanceId) × (t.chain_use number ≡ Some (a, b))
       × (IsPortLabel a label ⊎ IsPortLabel b label))
 
-  -- and one of a network to that network, or to one that it was related to
+  -- a row of a network's instance leads to that network, or to one that it was related to
   abbrev pub LeadsNear : InstanceId → LabelNo → Type 0
   LeadsNear a label = (b : InstanceId) × AreNear t a b × IsPortLabel b label
 

@@ -10,15 +10,17 @@ pub fn settled_networks_are_compiled()
     ensures { AfterAnySchedule (λ size w. ShowsCompiled w) }
 {}
 
-/// At such a moment each control node shows exactly the tables of all instances of the configuration of that moment,
-/// and the agent of each compute node exactly the rows that this configuration has for the node's address.
+/// Once every session is up and nothing is in flight, each control node shows exactly the tables of all instances of
+/// the configuration of that moment, and the agent of each compute node exactly the rows that this configuration has
+/// for the node's address.
 pub fn settled_tables_are_those_of_the_configuration()
     ensures controls { AfterAnySchedule (λ size w. ControlNodesShowTables w) }
     ensures agents { AfterAnySchedule (λ size w. AgentsShowRows w) }
 {}
 
-/// At such a moment each packet has the outcome that policies alone give: it is delivered exactly where its ports share
-/// a network or a policy permits it, having visited that policy's service instances in order.
+/// Once every session is up and nothing is in flight, each packet has the outcome that policies alone give: it is
+/// delivered exactly where its ports share a network or a policy permits it, having visited that policy's service
+/// instances in order.
 pub fn settled_networks_deliver_what_policies_permit()
     ensures { AfterAnySchedule (λ size w. SettledIsReachable w) }
 {}

@@ -44,15 +44,15 @@ pub fn what_is_refused_changes_nothing()
     ensures { KeepsWhatIsNotRefused }
 {}
 
-/// An event more is one step more of that machine, and is among the events that are kept exactly where it is not refused
-/// so.
+/// An event more is one step more of the machine that refuses edits which break a tie, and is among the events that are
+/// kept exactly where it is not refused so.
 pub fn schedules_go_on()
     ensures { GoesOn }
 {}
 
-/// In that machine, at every moment of every schedule, settled or not: a packet is delivered only between ports that
-/// stood in configurations so far, in networks that are one or that a configuration so far related. Whichever networks
-/// configurations so far had the two ports in, they are such.
+/// In the machine that refuses edits which break a tie, at every moment of every schedule, settled or not: a packet is
+/// delivered only between ports that stood in configurations so far, in networks that are one or that a configuration
+/// so far related. Whichever networks configurations so far had the two ports in, they are such.
 pub fn machines_that_keep_ties_are_isolated()
     ensures configurations { AtMomentsWithTies DeliversToThoseJoined }
     ensures ties { AtMomentsWithTies IsIsolated }
@@ -71,8 +71,8 @@ pub fn ties_are_needed()
     ensures { ¬ AtMomentsWithout StaysAmong }
 {}
 
-/// The relations of the past are needed too: once two networks are related no more, a packet may still be delivered from
-/// the one to the other.
+/// Ties need the relations of the past: once two networks are related no more, a packet may still be delivered from the
+/// one to the other.
 pub fn relations_of_the_past_are_needed()
     ensures { ¬ AtMomentsOfRuns StaysAmongPresent }
 {}

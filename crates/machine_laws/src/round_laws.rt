@@ -51,8 +51,8 @@ pub fn rounds_are_of_messages_octets_and_rounds()
         → after_rounds size w (es ∷ fs ∷ []) ≡ after size (after size w es) fs }
 {}
 
-/// As a round begins, of each session in turn, from its earlier node to its later one and then back, exactly the notice
-/// that waits is due, or else each message that is in flight.
+/// When a round begins, exactly what waits is due: of each session in turn, from its earlier node to its later one and
+/// then back, the notice that waits, or else each message that is in flight.
 pub fn rounds_begin_with_what_is_in_flight()
     ensures { (w : MachineState) → AreDue w.sessions (dues w) }
 {}

@@ -31,8 +31,8 @@ pub fn settle_settles()
     ensures { WhereRanked (λ greatest size w. SettleSettlesIn greatest w) }
 {}
 
-/// These premises are met: the network of one control node and one agent settles in four rounds, whatever its
-/// configuration is and whatever came before, but for compute nodes that were put or deleted.
+/// The premises of `rounds_settle` are met: the network of one control node and one agent settles in four rounds,
+/// whatever its configuration is and whatever came before, but for compute nodes that were put or deleted.
 pub fn the_least_network_settles()
     ensures rounds { (size : Name → Message → ℕ) → ArePositive size
         → (asn : ℕ) (control compute : Addr) (config : Config) (es : List MachineEvent)

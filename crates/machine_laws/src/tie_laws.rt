@@ -43,7 +43,7 @@ pub fn packets_stay_among_networks_related_by_rules()
     ensures { AtMomentsWithTies DeliversAmongRelated }
 {}
 
-/// Of several ties that are broken the first in the document's order is named: no port before it is in another network
+/// Where several ties are broken, the first in the document's order is named: no port before it is in another network
 /// than the tie of its number has, no chain rule before it between other networks, and no compute node before it at
 /// another address or under another name.
 pub fn the_first_broken_tie_is_named()

@@ -47,7 +47,7 @@ pub record IsNew (s : Session) : Type 0 where
   pub near : IsClosed s.near
   pub far : IsClosed s.far
 
--- where it is one of the agent of this name
+-- a session is new, where it is one of the agent of this name
 abbrev pub IsNewFor : Name → Session → Type 0
 IsNewFor name s = is_of name s ≡ true → IsNew s
 
@@ -60,7 +60,7 @@ NoneOr P o = (o ≡ None) ⊎ ((s : Session) × (o ≡ Some s) × P s)
 abbrev pub WaitsForNothing : Session → Type 0
 WaitsForNothing s = (s.near.notice ≡ false) × (s.far.flight ≡ [])
 
--- it is not down, or a notice is pending at an end
+-- a session is not down, or a notice is pending at an end
 abbrev pub MayNotConnect : Session → Type 0
 MayNotConnect s = (s.is_down ≡ false) ⊎ ((s.near.notice ≡ true) ⊎ (s.far.notice ≡ true))
 
@@ -94,7 +94,7 @@ pub record StandsThere (t : Topology) (n : Node) : Type 0 where
   pub address : node.address ≡ n.address
   pub controllers : node.controllers ≡ n.controllers
 
--- it puts no compute node and deletes none
+-- an edit puts no compute node and deletes none
 abbrev pub IsOfNoNode : Edit → Type 0
 IsOfNoNode (Put (objects.Node n)) = ⊥
 IsOfNoNode (Delete kinds.Node name) = ⊥

@@ -31,7 +31,7 @@ use Rattle.machine_model.specs.Steps.{deliver_octets, round, is_broken, may_conn
 pub data MachineEvent : Type 0 where
   Edits : Edit → MachineEvent
   Deliver : Name → Name → ℕ → MachineEvent
-  -- so many octets, which may end within a message
+  -- a number of octets, which may end within a message
   DeliverOctets : Name → Name → ℕ → MachineEvent
   Lose : Name → Name → MachineEvent
   Connect : Name → Name → MachineEvent
@@ -58,7 +58,7 @@ event_of (written.Trace p) = Trace p
 event_of (written.Break from to n) = Break from to n
 
 -- ---- what it makes of the network
--- each of these nodes makes its pass, in their order
+-- some nodes make their passes, in their order
 abbrev pub passes : List Name → MachineState → MachineState
 passes [] w = w
 passes (n ∷ ns) w = passes ns (pass n w)

@@ -55,7 +55,7 @@ cell false Opened Hello = Some Up
 cell false Up (Carries d) = Some Up
 cell _ _ _ = None
 
--- none of these messages, taken in turn, meets a cell that goes down
+-- no message among some, taken in turn, meets a cell that goes down
 abbrev pub NoneGoesDown : Bool → Phase → List Message → Type 0
 NoneGoesDown peering phase [] = Unit {0}
 NoneGoesDown peering phase (m ∷ ms) =
@@ -130,7 +130,7 @@ AtEveryMoment P =
     (size : Name → Message → ℕ) → ArePositive size
     → (x : Checked) (es : List MachineEvent) → P size (after size (start x) es)
 
--- the same, where names tell nodes apart
+-- at every moment of every schedule, where names tell nodes apart
 abbrev pub WhereNamed : ((Name → Message → ℕ) → MachineState → Type 0) → Type 0
 WhereNamed P =
     (size : Name → Message → ℕ) → ArePositive size
@@ -187,7 +187,7 @@ pub record NumbersFit (t : Topology) (c : NodeId) (agents : List (Option NodeId)
       → (n : Node) × Member n t.nodes × (id_of n ≡ a) × (lists n c ≡ true)
   pub once : AreOnce agents
 
--- they fit at each control node
+-- the numbers of agents fit at each control node
 abbrev pub HasNumbers : Setup → Type 0
 HasNumbers x =
     (c : NodeId) → Member c x.topology.controllers → NumbersFit x.topology c (agents_of x c.name)

@@ -45,7 +45,7 @@ module _ (size : Name → Message → ℕ) where
   taken_by from to w Round = in_flight w from to
   taken_by from to w e = if goes from to e then in_flight w from to - in_flight (next size w e) from to else 0
 
-  -- and a list of them
+  -- how much a list of events takes in one direction
   abbrev pub taken_of : Name → Name → MachineState → List MachineEvent → ℕ
   taken_of from to w [] = 0
   taken_of from to w (e ∷ es) = taken_by from to w e + taken_of from to (next size w e) es
@@ -80,7 +80,7 @@ pub record IsTakenInTurns (size : Name → Message → ℕ) (w : MachineState) :
   pub turns : AreTurns size (dues w) w (next size w Round)
   pub counts : AllByRecursion (λ d. d.count ≡ in_flight w d.from d.to) (dues w)
 
--- it is a round of deliveries, which take of each direction exactly what was in flight when it began
+-- a round is one of deliveries, which take of each direction exactly what was in flight when it began
 pub record IsOfDeliveries (size : Name → Message → ℕ) (w : MachineState) : Type 0 where
   pub deliveries : List MachineEvent
   pub same : next size w Round ≡ after size w deliveries

@@ -83,7 +83,7 @@ dues w = flat_map (λ s. due_at (turned s) ∷ due_at s ∷ []) w.sessions
 abbrev pub notice_stands : MachineState → Due → Bool
 notice_stands w d = unwrap_or (option_map (λ (s : Session). s.near.notice) (session_of w d.to d.from)) false
 
--- one of those that waited, where it is still there
+-- a message or notice of those that waited is delivered, where it is still there
 abbrev pub deliver_due : Due → MachineState → MachineState
 deliver_due d w = if beq (notice_stands w d) d.is_notice then deliver d.from d.to w else w
 
@@ -110,7 +110,7 @@ open_second a b w = if is_broken w a b then w else pass b (change_session a b (a
 abbrev pub connect : Name → Name → MachineState → MachineState
 connect a b w = open_second a b (pass a (change_session a b opened w))
 
--- where it is down, and no notice is pending at an end
+-- a session may be connected where it is down, and no notice is pending at an end
 abbrev pub may_connect : Session → Bool
 may_connect s = s.is_down && (not s.near.notice && not s.far.notice)
 
@@ -156,6 +156,7 @@ reconnected w = connect_all w.sessions w
 abbrev pub resumed : MachineState → MachineState
 resumed w = reconnected (round (record { setup = w.setup; sessions = map without_breaks w.sessions }))
 
--- then rounds are done until nothing is in flight, at most 6 more in all than the longest chain in effect has services
+-- to settle: the sessions that may be are connected, and rounds are done until nothing is in flight, at most 6 more in
+-- all than the longest chain in effect has services
 unfoldable pub settle : MachineState → ℕ × MachineState
 settle w = rounds_from (longest w.setup + 5) 1 (resumed w)

@@ -53,8 +53,8 @@ pub fn sessions_are_those_of_the_topology()
     ensures { WhereLaidOut (λ size w. HasSessions w) }
 {}
 
-/// There too, at each control node the numbers of sessions are of the agents that list it, each once and under its
-/// address, or retired.
+/// Where the topology of each moment is laid out, at each control node the numbers of sessions are of the agents that
+/// list it, each once and under its address, or retired.
 pub fn numbers_are_of_agents()
     ensures { WhereLaidOut (λ size w. (c : NodeId) → Member c w.setup.topology.controllers
         → NumbersFit w.setup.topology c (agents_of w.setup c.name)) }

@@ -21,8 +21,8 @@ pub fn rounds_take_turns()
     ensures { WhereLaidOut (λ size w. IsTakenInTurns size w) }
 {}
 
-/// There too, where no session is down and no break is pending, it is a round of deliveries, which take of each direction
-/// exactly what was in flight when it began.
+/// Where the topology of each moment is laid out, no session is down and no break is pending, a round is one of
+/// deliveries, which take of each direction exactly what was in flight when it began.
 pub fn rounds_are_of_deliveries()
     ensures { WhereLaidOut (λ size w. is_whole w ≡ true → is_unbroken w ≡ true → IsOfDeliveries size w) }
 {}

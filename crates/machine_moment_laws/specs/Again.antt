@@ -14,7 +14,7 @@ use Rattle.machine_model.specs.Events.{forwarders}
 use Rattle.machine_model.specs.Network.{MachineState}
 use Rattle.machine_moment_laws.specs.Kept.{IsDeliveredBy, IsInHand}
 
--- none of these ways, by the track that all configurations offer it with, visits more services
+-- no way among some visits more services, by the track that all configurations offer it with
 abbrev pub VisitAtMost : ℕ → List Checked → Packet → PortNo → List Way → Type 0
 VisitAtMost most cs p number ways =
     (way : Way) (track : Track) → Contains ways way → All (λ x. Offers x p number way track) cs

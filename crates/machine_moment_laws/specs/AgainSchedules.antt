@@ -1,4 +1,5 @@
--- The same of the answers of a schedule, place by place, where ties are kept.
+-- Packets that configurations keep to a port are delivered again, said of the answers of a schedule, place by place,
+-- where ties are kept.
 use Rattle.std.specs.Prelude.{◌≡◌, ◌≤◌, ℕ, ◌+◌, List, [], ◌∷◌, drop, length, map, take}
 use Rattle.std.specs.List.{AllByRecursion}
 use Rattle.ov_types.specs.declared.numbers.PortNo.{PortNo}
@@ -35,8 +36,8 @@ rounds_since x since es =
     rounds_in message_size (tied_moment x (take since es)).network
     (kept_events message_size (tied_moment x (take since es)) (map event_of (drop since es)))
 
--- so many rounds later a packet is delivered that these configurations keep to a port; and all that one delivers, where it is
--- alone
+-- a packet that some configurations keep to a port is delivered once enough rounds have passed, and so is all that a
+-- configuration delivers that is the only one
 pub record DeliversAgainSince (rounds : ℕ) (cs : List Checked) (p : Packet) (o : Outcome) : Type 0 where
   pub kept : (number : PortNo) (ways : List Way) → Keep cs p number ways
       → IsInHand cs p number ways → (most : ℕ) → VisitAtMost most cs p number ways → most + 5 ≤ rounds

@@ -95,8 +95,8 @@ pub record IsVerdictOfSome (cs : List Checked) (from to : ℕ) (t : Tuple) (v : 
   pub has_list : Member (key.Acl from to, low.Acl subnets rules) (low_objects config.topology config.config)
   pub says : v ≡ verdict_in from t (Some (record { to = to; rules = rules }))
 
--- so the verdict of an agent on a packet that heads there is that of some configuration: none of several, and never that the
--- packet has no destination
+-- the verdict of an agent on a packet that heads from one network to another in all configurations is that of some
+-- configuration: none of several, and never that the packet has no destination
 abbrev pub VerdictsAreOfSome : List Checked → MachineState → Type 0
 VerdictsAreOfSome cs w =
     (n : Node) (p : Packet) (from to : ℕ) → HeadsInCommon cs n from to p.destination.0
@@ -118,13 +118,14 @@ pub record IsLedBy (cs : List Checked) (n : Node) (from : InstanceId) (to : ℕ)
   pub few : length services < 64
   pub way : IsCommonWay cs n instance p.destination.0 services q
 
--- and by those of the list that each configuration has between the two networks
+-- a packet goes on, by the entries of the list that each configuration has between two networks, where a common way
+-- leads it to a port
 pub record IsLedByAll (cs : List Checked) (n : Node) (from : InstanceId) (to : ℕ) (p : Packet) (q : PortNo) : Type 0 where
   pub heads : HeadsInCommon cs n from.0 to p.destination.0
   pub ways : (c : Checked) (subnets : List Block) (rules : List AclRule) → Member c cs
       → Member (key.Acl from.0 to, low.Acl subnets rules) (low_objects c.topology c.config) → IsLedBy cs n from to p q rules
 
--- it is delivered by the way of one configuration, whole
+-- a packet is delivered by the way of one configuration, whole
 pub record IsDeliveredByOne (cs : List Checked) (n : Node) (from : InstanceId) (to : ℕ) (p : Packet) (q : PortNo) (o : Outcome) : Type 0 where
   pub config : Checked
   pub among : Member config cs
@@ -139,13 +140,15 @@ pub record StartsInCommon (cs : List Checked) (n : Node) (from : InstanceId) (p 
   pub stays : Member n (standing cs)
   pub label : Member (port_label_of p.source, Port p.source from) (rows_in_common cs n.address).labels
 
--- it starts at the agent of that node, in that network
+-- a packet whose source port stands at a node that stands, in one network, starts at the agent of that node, in that
+-- network
 abbrev pub StartsWhereCommon : List Checked → MachineState → Type 0
 StartsWhereCommon cs w =
     (n : Node) (from : InstanceId) (p : Packet) → StartsInCommon cs n from p
     → first_of (source_at p) (forwarders w) ≡ Some (agent_at_node w n, from)
 
--- so it is with each packet whose source port stands so
+-- each packet whose source port stands at a node that stands, in one network, and that each configuration leads along a
+-- common way, is delivered by the way of one configuration
 abbrev pub DeliversByOne : List Checked → MachineState → Type 0
 DeliversByOne cs w =
     (n : Node) (from : InstanceId) (to : ℕ) (p : Packet) (q : PortNo) → StartsInCommon cs n from p → IsLedByAll cs n from to p q

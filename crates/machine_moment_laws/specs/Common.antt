@@ -62,7 +62,7 @@ has_subnet p ps = list_any (same_prefix p) ps
 abbrev pub entered : List AclRule → List InstanceId
 entered rules = filter_map (λ r. entered_by r.action) rules
 
--- of which kind an object is, and what it lists
+-- the kind of an object, and what it lists
 abbrev pub is_network : Option LowValue → Bool
 is_network (Some (low.Instance is)) = true
 is_network _ = false
@@ -96,7 +96,7 @@ is_use_of left right hops (Some (low.ChainUse l r left_subnets right_subnets hs)
     same_instance l left && (same_instance r right && pointwise same_hop hs hops)
 is_use_of left right hops _ = false
 
--- the same object
+-- two objects are the same
 abbrev pub is_object : LowValue → Option LowValue → Bool
 is_object v (Some w) = same_value (Object w) (Object v)
 is_object v None = false
@@ -109,7 +109,7 @@ is_port_in port instance node _ = false
 
 -- ---- what is common
 module _ (nodes : List Node) (feeds : List Map) where
-  -- of an access list the rules that enter an instance which each of them enters by this list
+  -- the rules of an access list that enter an instance which each feed enters by this list
   abbrev pub enters_everywhere : LowKey → AclRule → Bool
   enters_everywhere k r =
       elim (entered_by r.action) [
@@ -117,9 +117,9 @@ module _ (nodes : List Node) (feeds : List Map) where
         | None ↦ false
       ]
 
-  -- Of an object of one feed, what these other feeds have too. A network is common with the imports of all; an attachment
-  -- where it is one and the same, at a node that stands; an access list with the subnets and the entered instances of all;
-  -- a use where its networks and its services are the same, at nodes that stand, with the subnets of all
+  -- What the other feeds have too of an object of one feed. A network is common with the imports of all; an attachment
+  -- where it is one and the same, at a node that stands; an access list with the subnets and the entered instances of
+  -- all; a use where its networks and its services are the same, at nodes that stand, with the subnets of all
   abbrev pub common_object : LowKey → LowValue → Option LowValue
   common_object k (low.Instance is) =
       if list_all (λ m. is_network (object m k)) feeds
@@ -185,7 +185,7 @@ module _ (nodes : List Node) (feeds : List Map) where
   abbrev pub common_to : Map → Map
   common_to m = from_entries (filter_map (λ e. common_entry m e.0 e.1) (entries m))
 
-  -- and where a port stands at one node, which stands, and in one network, that it stands there, whatever its address
+  -- a port that stands at one node, which stands, and in one network, is said to stand there, whatever its address
   abbrev pub placed_entry : Map → Key → Value → Option (Key × Value)
   placed_entry m (Low k) (Object (low.AttachPort port instance address node)) =
       if list_all (λ f. is_port_in port instance node (object f k)) feeds && stands_at nodes node

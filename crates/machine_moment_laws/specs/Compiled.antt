@@ -32,8 +32,8 @@ abbrev pub PassesEachOnce : Outcome → Type 0
 PassesEachOnce (Delivered port services) = AllPairs (λ s u. s.0 ≢ u.0) services
 PassesEachOnce (Dropped why) = ⊤
 
--- of a settled network with this configuration, a control node shows the tables of all instances, an agent the rows of
--- its node's address, and a packet goes where policies permit it
+-- what a settled network with this configuration answers: a control node shows the tables of all instances, an agent
+-- the rows of its node's address, and a packet goes where policies permit it
 abbrev pub AnswersCompiled : Checked → Event → Answer → Type 0
 AnswersCompiled y (Show name) answer =
     ((c : NodeId) → Member c y.topology.controllers → c.name ≡ name

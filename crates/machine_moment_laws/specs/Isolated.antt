@@ -39,7 +39,7 @@ OfDelivery Joins e a = ⊤
 abbrev pub DeliversSoFar : Checked → List Event → Event → TiedAnswer → Type 0
 DeliversSoFar x es e a = OfDelivery (StayJoined (configs_so_far x es)) e a
 
--- and among those that ties join
+-- a packet that is delivered stays among ports that ties join
 abbrev pub DeliversTied : Ties → Event → TiedAnswer → Type 0
 DeliversTied t e a = OfDelivery (AreJoined t) e a
 
@@ -54,7 +54,7 @@ abbrev pub IsIsolated : Checked → List Event → List TiedAnswer → Type 0
 IsIsolated x es answered =
     (place : ℕ) (e : Event) (a : TiedAnswer) → StandsAt es answered place e a → DeliversSoFar x (take place es) e a
 
--- ---- the same with no definition of ties
+-- ---- isolation with no definition of ties
 -- both port numbers stood in configurations so far, in networks that are one or between which a configuration so far had a
 -- rule that lets packets through; and so are whichever networks configurations so far had the two in
 pub record StayRelated (cs : List Config) (p q : PortNo) : Type 0 where

@@ -37,7 +37,7 @@ IsInHand cs p number ways =
     (way : Way) (track : Track) → Contains ways way → IsStraight way → All (λ x. Offers x p number way track) cs
     → KeepsInHand cs track.from track.to p.destination
 
--- it is delivered to the port by one of these ways, whole: it visits just the services of the track that all
+-- a packet is delivered to the port by one of these ways, whole: it visits just the services of the track that all
 -- configurations offer that way with. So one of these configurations delivers it by its policies
 pub record IsDeliveredBy (cs : List Checked) (p : Packet) (number : PortNo) (ways : List Way) (o : Outcome) : Type 0 where
   pub way : Way
@@ -54,7 +54,8 @@ KeptAreDelivered cs w =
     (p : Packet) (number : PortNo) (ways : List Way) → Keep cs p number ways → IsInHand cs p number ways
     → IsDeliveredBy cs p number ways (forwarding (forwarders w) p)
 
--- the same of a window with one accepted edit at most, where no address changes hands
+-- a packet that all configurations of a window keep to a port is delivered there by one of its ways, in a window with
+-- one accepted edit at most, where no address changes hands
 abbrev pub KeptInOneEdit : List Checked → MachineState → Type 0
 KeptInOneEdit cs w =
     IsOfOneEdit cs → (p : Packet) (number : PortNo) (ways : List Way) → Keep cs p number ways
@@ -91,7 +92,7 @@ NewInterruptsNothing {A} name_of object list cs w =
     (x : Checked) (o : A) → cs ≡ x ∷ edited (Put (object o)) x ∷ [] → IsTrue (has_edit_form (Put (object o)))
     → All (λ y. name_of y ≢ name_of o) (list x) → edit_fault x (Put (object o)) ≡ None → StaysDelivered x w
 
--- where it deletes an object, all that is delivered after
+-- where the edit deletes an object, all that is delivered after
 abbrev pub DeleteInterruptsNothing : ObjectKind → List Checked → MachineState → Type 0
 DeleteInterruptsNothing kind cs w =
     (x : Checked) (name : List ℕ) → cs ≡ x ∷ edited (Delete kind name) x ∷ [] → IsTrue (has_edit_form (Delete kind name))

@@ -1,4 +1,5 @@
--- The same of the answers of a schedule, place by place, where ties are kept.
+-- Packets that configurations keep to a port are delivered there, said of the answers of a schedule, place by place,
+-- where ties are kept.
 use Rattle.std.specs.Prelude.{ℕ, List, drop, map, take, ⊤}
 use Rattle.std.specs.List.{AllByRecursion}
 use Rattle.ov_types.specs.declared.numbers.PortNo.{PortNo}
@@ -26,7 +27,8 @@ pub record IsWindowSince (x : Checked) (since : ℕ) (es : List Event) : Type 0 
   pub begins : IsBeginning (tied_moment x (take since es)).network
   pub goes_on : AllByRecursion IsOfWindow (map event_of (drop since es))
 
--- its configurations: that of its first moment, and those that the accepted edits since then led to, in their order
+-- the configurations of a window: that of its first moment, and those that the accepted edits since then led to, in
+-- their order
 abbrev pub configurations_since : Checked → ℕ → List Event → List Checked
 configurations_since x since es =
     configurations message_size (tied_moment x (take since es)).network

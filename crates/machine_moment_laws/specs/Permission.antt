@@ -66,31 +66,32 @@ KeptServices cs a b =
     → IsUsedBetween c a b number ss → IsUsedBetween e a b number ts → ss ≡ ts
 
 -- ---- what is promised of a packet and of what becomes of it
--- where it is delivered, this is said of the port that it comes to and of the services that it visited
+-- a fact, where a packet is delivered, of the port that it comes to and of the services that it visited
 abbrev pub WhereDelivered : (PortNo → List ServiceNo → Type 0) → Outcome → Type 0
 WhereDelivered Says (Delivered q services) = Says q services
 WhereDelivered Says (Dropped why) = ⊤
 
--- of the network that its source port stood in, and of the one that its destination lay in, alone among that and those that
--- were related to it
+-- a fact of the network that a packet's source port stood in, and of the one that its destination lay in, alone among
+-- the first and those that were related to it
 abbrev pub OfItsNetworks : List Config → Packet → (InstanceId → InstanceId → Type 0) → Type 0
 OfItsNetworks cs p Says =
     (from to : InstanceId) → InSome cs (λ c. StandsIn c p.source from) → LayInAlone cs from to p.destination → Says from to
 
--- where it is delivered, its port stood in the second network, and some configuration so far permitted its tuple, by some
--- services
+-- where a packet is delivered, its port stood in the second network, and some configuration so far permitted its tuple,
+-- by some services
 abbrev pub IsPermittedSomehow : List Config → Packet → Outcome → Type 0
 IsPermittedSomehow cs p o =
     OfItsNetworks cs p (λ from to. WhereDelivered (λ q services. InSome cs (λ c. StandsIn c q to)
     × ((permitted : List ServiceNo) × WasPermitted cs from to p.tuple permitted)) o)
 
--- and by just those that it visited, in order, where each use between the two networks kept its services
+-- where a packet is delivered, some configuration so far permitted its tuple by just the services that it visited, in
+-- order, where each use between the two networks kept its services
 abbrev pub IsPermitted : List Config → Packet → Outcome → Type 0
 IsPermitted cs p o =
     OfItsNetworks cs p (λ from to. KeptServices cs from to → WhereDelivered (λ q services. InSome cs (λ c. StandsIn c q to)
     × WasPermitted cs from to p.tuple services) o)
 
--- it visits at most 15 services, and so is never dropped for want of lookups
+-- a packet visits at most 15 services, and so is never dropped for want of lookups
 abbrev pub IsLedOn : List Config → Packet → Outcome → Type 0
 IsLedOn cs p o =
     OfItsNetworks cs p (λ from to. (o ≢ Dropped TtlExpired) × WhereDelivered (λ q services. length services ≤ 15) o)
@@ -100,7 +101,7 @@ pub record PassesAsPermitted (cs : List Config) (p : Packet) (o : Outcome) : Typ
   pub exactly : IsPermitted cs p o
   pub led_on : IsLedOn cs p o
 
--- of each packet, at a moment
+-- a fact of each packet, at a moment
 abbrev pub OfEachPacket : (List Config → Packet → Outcome → Type 0) → List Config → MachineState → Type 0
 OfEachPacket Passes cs w = (p : Packet) → Passes cs p (forwarding (forwarders w) p)
 
@@ -118,7 +119,8 @@ pub record HeadsTo (c : Config) (p : Packet) (from to : InstanceId) (q : PortNo)
   pub arrival_address : arrival.address ≡ p.destination
   pub arrival_number : arrival.id ≡ q
 
--- it is permitted there by these services, and its destination lies in that network alone
+-- a packet is permitted from one network into another by these services, and its destination lies in the second network
+-- alone
 pub record DeliversAsPermitted (c : Config) (p : Packet) (q : PortNo) (services : List ServiceNo) : Type 0 where
   pub from : InstanceId
   pub to : InstanceId

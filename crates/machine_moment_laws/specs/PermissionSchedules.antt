@@ -1,4 +1,4 @@
--- The same of the answers of a schedule, place by place.
+-- Packets pass only as configurations so far permitted, said of the answers of a schedule, place by place.
 use Rattle.std.specs.Prelude.{ℕ, List, take, ⊤}
 use Rattle.ov_types.specs.declared.packet.Outcome.{Outcome}
 use Rattle.ov_types.specs.declared.packet.Packet.{Packet}

@@ -61,7 +61,7 @@ AtMomentsSince P =
     → P (rounds_in size (after size (start x) before) es) (configurations size (after size (start x) before) es)
     (after size (after size (start x) before) es)
 
--- so many rounds later
+-- a fact that holds once as many rounds have passed
 abbrev pub Later : ℕ → (List Checked → MachineState → Type 0) → ℕ → List Checked → MachineState → Type 0
 Later least P rounds cs w = least ≤ rounds → P cs w
 

@@ -62,14 +62,14 @@ abbrev pub DropsIfRefused : Config → Packet → Outcome → Type 0
 DropsIfRefused c p o =
     (why : Why) → IsRefusal why → reachability c p ≡ Dropped why → (o ≡ Dropped why) ⊎ (o ≡ Dropped Reason.NoSourcePort)
 
--- so is each packet that the present policies refuse
+-- each packet that the present policies refuse is dropped, for the same reason, or since no agent has its source port
 abbrev pub DropsWhatIsRefused : MachineState → Type 0
 DropsWhatIsRefused w = (p : Packet) → DropsIfRefused w.setup.config p (forwarding (forwarders w) p)
 
 abbrev pub RefusesInTwo : (Name → Message → ℕ) → MachineState → Type 0
 RefusesInTwo = EndsIn 2 DropsWhatIsRefused
 
--- the same in the words of a schedule: meanwhile it does nothing but deliver and look, with two rounds among that
+-- ---- in the words of a schedule: meanwhile it does nothing but deliver and look, with two rounds among that
 abbrev pub delivers_or_looks : MachineEvent → Bool
 delivers_or_looks (Show name) = true
 delivers_or_looks (Trace p) = true

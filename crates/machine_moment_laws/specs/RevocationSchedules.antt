@@ -1,4 +1,4 @@
--- The same of the answers of a schedule, place by place.
+-- Packets that the policies of the moment refuse are dropped, said of the answers of a schedule, place by place.
 use Rattle.std.specs.Prelude.{◌≡◌, ℕ, List, drop, map, take, true, ⊤}
 use Rattle.ov_types.specs.declared.packet.Outcome.{Outcome}
 use Rattle.ov_types.specs.declared.packet.Packet.{Packet}

@@ -34,12 +34,12 @@ led_to_by w (Edits e) = led_by (edited w.setup e)
 led_to_by w _ = []
 
 module _ (size : Name → Message → ℕ) where
-  -- those that the accepted edits of a list of events lead to, in their order
+  -- the configurations that the accepted edits of a list of events lead to, in their order
   abbrev pub led_to : MachineState → List MachineEvent → List Checked
   led_to w [] = []
   led_to w (e ∷ es) = led_to_by w e ++ led_to (next size w e) es
 
-  -- with that of the moment which the list begins with
+  -- the configuration of the moment which a list of events begins with, and those that its accepted edits lead to
   abbrev pub configurations : MachineState → List MachineEvent → List Checked
   configurations w es = checked w.setup ∷ led_to w es
 

@@ -21,14 +21,16 @@ pub fn kept_packets_are_delivered_again()
     ensures { AtMomentsSince KeptAreDeliveredAgain }
 {}
 
-/// Where there is one configuration since that moment, so is each packet that its policies deliver, as they say. So what an edit
-/// interrupts it interrupts for so many rounds at most.
+/// Take any moment at which no session is down, and let no edit be accepted since then. Each packet that the policies
+/// deliver is delivered as they say, from five rounds later on, and one more for each service that it visits. What an
+/// edit interrupts it interrupts for no longer.
 pub fn what_one_configuration_delivers_is_delivered_again()
     ensures { AtMomentsSince OneDeliversAgain }
 {}
 
-/// So it is of the answers of a schedule, place by place, where ties are kept: a trace of such a packet is answered as delivered,
-/// once so many rounds have passed.
+/// Where ties are kept, take any place of a schedule at which no session is down. A trace of a packet that all
+/// configurations since then keep to a port, or that the only one delivers, is answered as delivered: from five rounds
+/// later on, and one more for each service of the longest of its ways.
 pub fn traces_are_answered_as_delivered_again()
     ensures { (x : Checked) → IsWritten (opening x) → (es : List Event) → IsTrue (list_all has_event_form es)
         → IsAgainThroughout x es (answers x es) }

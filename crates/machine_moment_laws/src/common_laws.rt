@@ -29,20 +29,22 @@ pub fn what_is_common_stays()
     ensures { AtMomentsOfWindows WhatIsCommonStays }
 {}
 
-/// These labels, access lists and routes are all that the common part compiles to by itself, and those of such ports besides.
+/// The labels, access lists and routes that an agent has in common are all that the common part compiles to by itself,
+/// and those of ports that all configurations have there in one network besides.
 pub fn what_the_common_part_compiles_to_is_common()
     ensures { (b : Checked) (ds : List Checked) → ((c : Checked) → Member c (b ∷ ds) → IsWritten (opening c)) → (address : Addr)
         → HasAllRows (rows_in_common (b ∷ ds) address) (agent_rows (common (b ∷ ds)) address) }
 {}
 
-/// In no instance, of a network or of a place of a use, has it another route that contains an address which such a route
-/// contains: so the longest prefix there is that of the common route.
+/// An agent has in no instance, of a network or of a place of a use, another route that contains an address which a
+/// common route contains: so the longest prefix there is that of the common route.
 pub fn common_routes_lead_alone()
     ensures { AtMomentsOfWindows NothingElseLeads }
 {}
 
-/// So a packet that is looked up in an instance, at any moment of any window, goes the whole way that the common part leads it
-/// from there: through just the services of that way, in order, to the port at its end, whatever is under way meanwhile.
+/// A packet that is looked up in an instance, at any moment of any window, goes the whole way that the common part
+/// leads it from there: through just the services of that way, in order, to the port at its end, whatever is under way
+/// meanwhile.
 pub fn packets_go_the_common_way()
     ensures { AtMomentsOfWindows GoesTheCommonWay }
 {}
@@ -60,8 +62,9 @@ pub fn packets_start_where_common_ports_are()
     ensures { AtMomentsOfWindows StartsWhereCommon }
 {}
 
-/// So a packet with such a source port, that each configuration of the window so far leads along a common way to one port, is
-/// delivered there, by the way of one of them, through just its services: never by a mixture of several.
+/// A packet whose source port all configurations have at one node and in one network, and that each configuration of
+/// the window so far leads along a common way to one port, is delivered there, by the way of one of them, through just
+/// its services: never by a mixture of several.
 pub fn packets_are_delivered_by_the_way_of_one_configuration()
     ensures { AtMomentsOfWindows DeliversByOne }
 {}

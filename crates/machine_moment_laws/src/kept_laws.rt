@@ -30,7 +30,8 @@ pub fn kept_packets_are_delivered()
     ensures { AtMomentsOfWindows KeptAreDelivered }
 {}
 
-/// In a window with one accepted edit at most no address changes hands. So nothing is asked of it there.
+/// In a window with one accepted edit at most no address changes hands, so that nothing is asked of hands for
+/// `kept_packets_are_delivered` there.
 pub fn kept_packets_are_delivered_in_one_edit()
     ensures { AtMomentsOfWindows KeptInOneEdit }
 {}
@@ -41,7 +42,7 @@ pub fn packets_go_the_old_way_or_the_new_one()
     ensures { AtMomentsOfWindows GoesByEither }
 {}
 
-/// So where the edit is hitless, it interrupts no packet that both configurations deliver.
+/// An accepted edit that is hitless interrupts no packet that both configurations deliver.
 pub fn hitless_edits_interrupt_nothing()
     ensures { AtMomentsOfWindows HitlessInterruptsNothing }
 {}
@@ -74,9 +75,9 @@ pub fn ports_that_are_not_put_keep_their_address()
         → (PutsPort e number → ⊥) → HasOneAddress (x ∷ edited e x ∷ []) number }
 {}
 
-/// So it is of the answers of a schedule, place by place, where ties are kept. Where a window goes on since some place, a trace of
-/// a packet that all its configurations keep to a port is answered as delivered there, by one of its ways. Of hands nothing is
-/// asked where the window had one accepted edit at most.
+/// Where ties are kept, each trace in a schedule of a packet that all configurations of a window keep to a port is
+/// answered as delivered there, by one of its ways, while the window goes on. Where the window had one accepted edit at
+/// most, nothing is asked of addresses that change hands.
 pub fn traces_of_kept_packets_are_answered_as_delivered()
     ensures { (x : Checked) → IsWritten (opening x) → (es : List Event) → IsTrue (list_all has_event_form es)
         → IsKeptThroughout x es (answers x es) }

@@ -52,7 +52,7 @@ pub fn a_packet_goes_where_policies_permit()
         → a ≡ Traced (reachability y.config p) }
 {}
 
-/// It passes no service twice.
+/// A packet passes no service twice.
 pub fn each_service_is_passed_once()
     ensures { (y : Checked) (p : Packet) (port : PortNo) (services : List ServiceNo)
         → AnswersCompiled y (Trace p) (Traced (Delivered port services)) → AllPairs (λ s u. s.0 ≢ u.0) services }

@@ -28,30 +28,30 @@ pub fn packets_come_only_where_they_were_permitted()
     ensures { AtMomentsWithTies (λ t cs w. OfEachPacket IsPermittedSomehow cs w) }
 {}
 
-/// Where besides each use between the two networks had one list of services in all configurations so far in which it was in
-/// effect, the services that the packet visited are just those by which that configuration permitted it: none in its own
-/// network or by a pass rule, and by a chain rule exactly those of the chain, in order, or reversed where it matched
-/// mirrored.
+/// Let the destination be as in `packets_come_only_where_they_were_permitted`, and each use between the two networks
+/// have had one list of services in all configurations so far in which it was in effect. Then the services that a
+/// delivered packet visited are just those by which a configuration permitted it: none in its own network or by a pass
+/// rule, and by a chain rule exactly those of the chain, in order, or reversed where it matched mirrored.
 pub fn packets_visit_only_what_was_permitted()
     ensures { AtMomentsWithTies (λ t cs w. OfEachPacket IsPermitted cs w) }
 {}
 
-/// Under the first premise alone a packet visits at most 15 services, so that it is looked up at most 16 times, and none is
-/// dropped for want of lookups.
+/// Where the destination is as in `packets_come_only_where_they_were_permitted`, a packet visits at most 15 services,
+/// so that it is looked up at most 16 times, and is never dropped for want of lookups.
 pub fn packets_never_run_out_of_lookups()
     ensures { AtMomentsWithTies (λ t cs w. OfEachPacket IsLedOn cs w) }
 {}
 
-/// So it is of the answers of a schedule, place by place, where ties are kept: each trace is answered with an outcome that
-/// keeps to what configurations so far permitted.
+/// Where ties are kept, each trace in a schedule is answered with an outcome that keeps to what configurations so far
+/// permitted.
 pub fn traces_keep_to_what_was_permitted()
     ensures { (x : Checked) → IsWritten (opening x) → (es : List Event) → IsTrue (list_all has_event_form es)
         → IsPermittedThroughout x es (answers x es) }
 {}
 
-/// A configuration meets both premises by itself: each of its uses has one list of services, and the destination of each
-/// packet that its policies deliver lies in one network alone. It permits exactly what its policies deliver, by the services
-/// that they name.
+/// A configuration meets the premises of `packets_visit_only_what_was_permitted` by itself: each of its uses has one
+/// list of services, and the destination of each packet that its policies deliver lies in one network alone. It permits
+/// exactly what its policies deliver, by the services that they name.
 pub fn what_policies_deliver_is_permitted()
     ensures services { (x : Checked) → IsWritten (opening x) → (a b : InstanceId) → KeptServices (x.config ∷ []) a b }
     ensures delivered { (x : Checked) → IsWritten (opening x) → (p : Packet) (q : PortNo) (services : List ServiceNo)

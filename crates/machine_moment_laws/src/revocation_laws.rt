@@ -37,20 +37,22 @@ pub fn slices_are_present_after_two_rounds()
     ensures { WhereLaidOut RevokesInTwo }
 {}
 
-/// So from such a moment, after two rounds of deliveries, a packet is dropped for which the present policies have no
-/// source port or no destination, or that they deny: for the same reason, or since no agent has its source port.
+/// From any moment without a pending break, two rounds of deliveries later, a packet is dropped for which the present
+/// policies have no source port or no destination, or that they deny: for the same reason, or since no agent has its
+/// source port.
 pub fn refused_packets_are_dropped_after_two_rounds()
     ensures { AfterAnySchedule RefusesInTwo }
 {}
 
-/// The same in the words of a schedule: from such a moment on let nothing happen but deliveries, and what only looks at the
-/// network. Once two of these are rounds, such a packet is dropped.
+/// From any moment without a pending break let a schedule have nothing but deliveries, and events that only look at the
+/// network. Once two rounds are among them, a packet that the present policies refuse is dropped.
 pub fn refused_packets_are_dropped_once_two_rounds_passed()
     ensures { AfterAnySchedule RefusesSoonAfter }
 {}
 
-/// So it is of the answers of a schedule, place by place, where ties are kept: a trace of a packet that the policies of the
-/// moment refuse is answered as dropped, once two rounds have passed in which nothing else happened.
+/// Where ties are kept, take any place of a schedule at which no break is pending. A trace of a packet that the
+/// policies of the moment refuse is answered as dropped, once two rounds have passed since then in which nothing else
+/// happened.
 pub fn refused_packets_are_answered_as_dropped()
     ensures { (x : Checked) → IsWritten (opening x) → (es : List Event) → IsTrue (list_all has_event_form es)
         → IsRevoked x es (answers x es) }

@@ -28,9 +28,9 @@ pub fn deliveries_are_isolated()
         → IsIsolated x es (answers x es) }
 {}
 
-/// The same with no definition of ties: a packet is delivered only between ports that stood in configurations so far, in
-/// networks that are one or between which a configuration so far had a rule that passes packets or leads them through a
-/// chain.
+/// At every moment of every schedule, settled or not: a packet is delivered only between ports that stood in
+/// configurations so far, in networks that are one or between which a configuration so far had a rule that passes
+/// packets or leads them through a chain.
 pub fn deliveries_stay_among_networks_related_by_rules()
     ensures { (x : Checked) → IsWritten (opening x) → (es : List Event) → IsTrue (list_all has_event_form es)
         → StaysAmongRelated x es (answers x es) }

@@ -16,7 +16,7 @@ pub record Opens (seats : List Seat) (p : SessionPlace) (after : List Seat) : Ty
   pub takes : Takes (seat seats p.node) node (Opened p.session)
   pub is : after ≡ with_seat p.node node seats
 
--- then the sessions go down of which a node closed an end
+-- the far node opens its end, and then the sessions go down of which a node closed an end
 pub record OpensFar (seats : List Seat) (e : SessionEnds) (after : List Seat) : Type 0 where
   pub opened : List Seat
   pub opens : Opens seats e.far opened

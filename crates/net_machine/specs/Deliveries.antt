@@ -15,7 +15,7 @@ pub record TakesAt (seats : List Seat) (k : ℕ) (input : Input) (after : List S
   pub takes : Takes (seat seats k) node input
   pub is : after ≡ cleared (with_seat k node seats) k
 
--- it takes these octets on a session
+-- a node takes some octets on a session
 pub record TakesOctets (seats : List Seat) (p : SessionPlace) (octets : List ℕ) (after : List Seat) : Type 0 where
   pub bytes : Bor (List ℕ)
   pub are : bytes.now ≡ octets

@@ -36,7 +36,7 @@ pub record HasAgent (seats : List Seat) (agent control : Name) : Type 0 where
   pub behind : first_agent controls ≤ session
   pub alone : (i : ℕ) → other (seat seats node) i ≡ Some agent → i ≡ session
 
--- its end of that session
+-- the end of the control node's session with an agent
 pub record IsAgentPlace (seats : List Seat) (agent : Name) (p : SessionPlace) : Type 0 where
   pub node : p.node < length seats
   pub controls : Controls
@@ -49,7 +49,7 @@ abbrev pub Differ : List Name → Type 0
 Differ [] = Unit {0}
 Differ (c ∷ cs) = AllByRecursion (λ d. c ≢ d) cs × Differ cs
 
--- it has one with each of these, which are not the same
+-- an agent has a session with each of some control nodes, which are not the same
 pub record AreLeft (seats : List Seat) (agent : Name) (controls : List Name) : Type 0 where
   pub each : AllByRecursion (HasAgent seats agent) controls
   pub differ : Differ controls
@@ -106,7 +106,7 @@ abbrev pub CanMoveIf : Topology → Option Move → List Seat → Type 0
 CanMoveIf t None seats = Unit {0}
 CanMoveIf t (Some m) seats = CanMove t m seats
 
--- of each event: an edit without a fault moves what can move
+-- what an event needs: an edit without a fault moves what can move
 abbrev pub CanHappen : Checked → Event → List Seat → Type 0
 CanHappen x (event.Edit e) seats = edit_fault x e ≡ None → CanMoveIf (edited e x).topology (moves e x.topology) seats
 CanHappen x _ seats = Unit {0}

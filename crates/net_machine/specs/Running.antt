@@ -14,8 +14,8 @@ use Rattle.machine_moment_laws.specs.Runs.{tied_moment}
 use Rattle.net_machine.specs.declared.ends.SessionEnds.{SessionEnds}
 use Rattle.net_machine.specs.Seating.{order_of}
 
--- it began with a valid configuration, and its events have the form that all have. Its ties and its seats are those of
--- the state after them, and the order of a round is that of its sessions
+-- a network that runs: it began with a valid configuration, and its events have the form that all have. Its ties and
+-- its seats are those of the state after them, and the order of a round is that of its sessions
 pub record IsRunning (opening : Checked) (events : List Event) (ties : Kept) (seats : List Seat)
     (order : List SessionEnds) : Type 0 where
   pub written : IsWritten (opening_setup opening)

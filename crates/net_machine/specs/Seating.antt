@@ -67,7 +67,7 @@ ends_of seats a b = ends_at seats (place_of seats a b)
 abbrev pub order_among : List Seat → List Session → List SessionEnds
 order_among seats sessions = filter_map (λ (s : Session). ends_of seats s.near.name s.far.name) sessions
 
--- those of a control node with others
+-- the sessions of a control node with other control nodes
 abbrev pub peerings_of : NodeId → List NodeId → List Session
 peerings_of c others = map (λ (d : NodeId). between c.name Controller d.name Controller) others
 

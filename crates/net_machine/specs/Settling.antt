@@ -15,7 +15,7 @@ is_still seats e = (waiting seats e == 0) && (waiting seats (turned e) == 0)
 abbrev pub is_quiet : List Seat → List SessionEnds → Bool
 is_quiet seats order = list_all (is_still seats) order
 
--- and both ends are up
+-- a session is at rest: both ends are up, and nothing is in flight
 abbrev pub is_rested : List Seat → SessionEnds → Bool
 is_rested seats e =
     up_at seats e.near && up_at seats e.far && (waiting seats e == 0) && (waiting seats (turned e) == 0)

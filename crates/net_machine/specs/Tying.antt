@@ -54,16 +54,16 @@ IsFound x e ties (Faulty f) then = (edit_fault x e ≡ Some f) × (then ≡ ties
 IsFound x e ties (Tied tie) then = (broken_at (ties_in ties) x (event.Edit e) ≡ Some tie) × (then ≡ ties)
 
 -- ---- the order of a round
--- it is that of the sessions of the topology that the configuration node has
+-- the order of a round is that of the sessions of the topology that the configuration node has
 abbrev pub IsOrderOf : List Seat → List SessionEnds → Type 0
 IsOrderOf seats order = (x : Checked) → (seat seats 0).who ≡ Configuring x → order ≡ order_of seats x.topology
 
--- it is made anew where a compute node moved
+-- the order of a round is made anew where a compute node moved
 abbrev pub OrdersThen : Moved → List Seat → List SessionEnds → List SessionEnds → Type 0
 OrdersThen Yes after order then = IsOrderOf after then
 OrdersThen No after order then = then ≡ order
 
--- else the nodes and their sessions stay
+-- the order of a round after a move; where there is none the nodes and their sessions stay
 abbrev pub OrdersAs : Option Move → List Seat → List Seat → List SessionEnds → List SessionEnds → Type 0
 OrdersAs None seats after order then = Keeps seats after × (then ≡ order)
 OrdersAs (Some m) seats after order then = IsOrderOf after then

@@ -59,7 +59,7 @@ fn clear_at(nodes: &mut Nodes, place: SessionPlace)
     }
 }
 
-/// All ends of a node, after its step.
+/// Clears all ends of a node, after its step.
 pub(crate) fn clear_node(nodes: &mut Nodes, node: u16)
     requires node { node < length nodes.old.seats }
     requires long { AreLong nodes.old.seats }

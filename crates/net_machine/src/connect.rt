@@ -52,7 +52,8 @@ fn open_far(nodes: &mut Nodes, ends: SessionEnds) -> Result<(), NoMemory>
     Ok(())
 }
 
-/// Both nodes open, the near one first. Where a send of the near node closed its end again, the far one does not.
+/// Opens both ends of a session, the near one first. Where a send of the near node closed its end again, the far end
+/// does not open.
 fn open_both(nodes: &mut Nodes, ends: SessionEnds) -> Result<(), NoMemory>
     requires long { AreLong nodes.old.seats }
     requires seated { AreSeated nodes.old.seats ends }

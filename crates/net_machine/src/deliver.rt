@@ -30,7 +30,7 @@ pub(crate) fn take(nodes: &mut Nodes, node: u16, input: Input<'_>) -> Result<(),
     Ok(())
 }
 
-/// What is behind so many octets, if anything.
+/// What is behind a number of octets, if anything.
 fn behind(octets: &[u8], taken: usize) -> &[u8]
     ensures { result.now ≡ drop taken octets.now }
 {
@@ -107,7 +107,7 @@ pub(crate) fn deliver_octets(
     )
 }
 
-/// So many times, or as often as something waits.
+/// Delivers n times, or as often as something waits.
 pub(crate) fn deliver_many(nodes: &mut Nodes, ends: SessionEnds, n: u32) -> Result<(), NoMemory>
     requires long { AreLong nodes.old.seats }
     requires seated { AreSeated nodes.old.seats ends }

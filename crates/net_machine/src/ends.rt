@@ -14,7 +14,7 @@ pub struct SessionEnds {
     pub far: SessionPlace,
 }
 
-/// As the other end sees it.
+/// A session by its two ends, as its far end sees it.
 pub(crate) fn turned(ends: SessionEnds) -> SessionEnds
     ensures { result ≡ turned ends }
 {

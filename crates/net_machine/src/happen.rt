@@ -31,7 +31,7 @@ fn unless(is_idle: bool) -> Answer
     if is_idle { Answer::Idle } else { Answer::Did }
 }
 
-/// Delivers up to so many messages from one node to another.
+/// Delivers up to n messages from one node to another.
 fn delivered(nodes: &mut Nodes, from: &Name, to: &Name, n: u32) -> Result<Answer, NoMemory>
     requires { AreLong nodes.old.seats }
     ensures delivers { IfOk result (λ a. DeliversOn (ends_of nodes.old.seats to.now from.now) n
@@ -47,7 +47,7 @@ fn delivered(nodes: &mut Nodes, from: &Name, to: &Name, n: u32) -> Result<Answer
     Ok(answer)
 }
 
-/// Delivers up to so many octets from one node to another.
+/// Delivers up to n octets from one node to another.
 fn octets_delivered(
     alloc: Global,
     nodes: &mut Nodes,

@@ -58,7 +58,7 @@ pub(crate) fn lose(nodes: &mut Nodes, ends: SessionEnds)
     }
 }
 
-/// The other end of a session is told of its loss, where it is live, and what left it is gone.
+/// Tells the far end of a session of its loss, where that end is live, and discards what left it.
 pub(crate) fn tell_of_loss(nodes: &mut Nodes, place: SessionPlace)
     requires long { AreLong nodes.old.seats }
     requires seated { IsSeated nodes.old.seats place }

@@ -53,7 +53,7 @@ fn listed_by<'a>(topology: &'a Topology, name: &Name) -> &'a [Name]
     }
 }
 
-/// These names, to be kept.
+/// A copy of names.
 fn copied(alloc: Global, names: &[Name]) -> Result<Vec<Name>, NoMemory>
     ensures { IfOk result (λ copy. copy.items ≡ names.now) }
 {
@@ -75,7 +75,7 @@ fn leave(nodes: &mut Nodes, name: &Name, control: &Name) -> Result<(), NoMemory>
     }
 }
 
-/// An agent goes from these control nodes.
+/// An agent goes from the control nodes of some names.
 fn leave_all(nodes: &mut Nodes, name: &Name, controls: &[Name]) -> Result<(), NoMemory>
     requires long { AreLong nodes.old.seats }
     requires left { AreLeft nodes.old.seats name.now controls.now }
@@ -170,7 +170,7 @@ fn pass(nodes: &mut Nodes, control: &Name) -> Result<(), NoMemory>
     }
 }
 
-/// These control nodes make their passes, in their order.
+/// The control nodes of some names make their passes, in their order.
 fn pass_all(nodes: &mut Nodes, controls: &[Name]) -> Result<(), NoMemory>
     requires long { AreLong nodes.old.seats }
     requires controls { All (IsControlNode nodes.old.seats) controls.now }

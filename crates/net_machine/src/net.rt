@@ -86,6 +86,7 @@ fn with_nodes(alloc: Global, nodes: Nodes, opening: Valid, ties: Ties) -> Result
     ensures ties { IfOk result (λ net. AreAlike (ties_in net.ties) (tied_moment net.opening net.events).ties) }
     ensures rounds { IfOk result (λ net. SettlesInTime message_size (tied_moment net.opening net.events).network) }
 {
+    // (for its clauses: the configuration is valid and of the written form)
     let _config = opening.config();
     let order = order_of(alloc, &nodes, opening.topology())?;
     Ok(Net {

@@ -53,7 +53,7 @@ fn dues(alloc: Global, nodes: &Nodes, order: &[SessionEnds]) -> Result<Vec<Due>,
     Ok(due)
 }
 
-/// One of those that waited is delivered, where it is still there.
+/// Delivers one message or notice of those that waited when the round began, where it is still there.
 fn deliver_due(nodes: &mut Nodes, due: &Due) -> Result<(), NoMemory>
     requires long { AreLong nodes.old.seats }
     requires seated { AreSeated nodes.old.seats due.now.ends }
@@ -68,7 +68,7 @@ fn deliver_due(nodes: &mut Nodes, due: &Due) -> Result<(), NoMemory>
     }
 }
 
-/// All that waited in one direction.
+/// Delivers all that waited in one direction when the round began.
 fn deliver_dues(nodes: &mut Nodes, due: &Due) -> Result<(), NoMemory>
     requires long { AreLong nodes.old.seats }
     requires seated { AreSeated nodes.old.seats due.now.ends }

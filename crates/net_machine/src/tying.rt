@@ -29,11 +29,11 @@ use std::alloc::Global;
 /// What is found of an edit.
 #[derive(Drop)]
 pub enum Found {
-    /// It has no fault and breaks no tie, and this is valid then.
+    /// The edit has no fault and breaks no tie, and what it makes is valid.
     Made(Valid),
-    /// It has a fault.
+    /// The edit has a fault.
     Faulty(EditFault),
-    /// It has no fault, and would break this tie.
+    /// The edit has no fault, and would break this tie.
     Tied(Tie),
 }
 

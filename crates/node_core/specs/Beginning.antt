@@ -42,8 +42,8 @@ Begins me s p (input.Bytes session bytes) given cause =
     × (cause ≡ (heard s inputs).cause)
 Begins me s p (input.Closed session) given cause = (given ≡ record { replies = []; after = None }) × (cause ≡ None)
 
--- the same, where these octets were kept of the session before: they are heard again before those that came. And what
--- is kept of it then
+-- what an input makes of an end where these octets were kept of the session before: they are heard again before those
+-- that came. And what is kept of it then
 abbrev pub BeginsKeeping : List ℕ → SessionFields → Post → List ℕ → Input → Beginning → Option ItemCause → List ℕ → Type 0
 BeginsKeeping me s p kept (input.Bytes session bytes) given cause left =
     (inputs : List Came) × Leaves s (kept ++ bytes.now) inputs left

@@ -38,12 +38,12 @@ abbrev pub left_in : Input → ℕ → List ℕ
 left_in (input.Bytes session bytes) taken = drop taken bytes.now
 left_in _ taken = []
 
--- it brings none
+-- an input brings no octets
 abbrev pub IsSilent : Input → Type 0
 IsSilent (input.Bytes session bytes) = ⊥
 IsSilent _ = Unit {0}
 
--- the same input, with its octets behind those that were kept
+-- an input is another one with its octets behind those that were kept
 abbrev pub IsBehind : List ℕ → Input → Input → Type 0
 IsBehind kept (input.Bytes i bytes) (input.Bytes j whole) = (j ≡ i) × (whole.now ≡ kept ++ bytes.now)
 IsBehind kept came whole = whole ≡ came

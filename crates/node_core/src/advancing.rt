@@ -26,7 +26,7 @@ pub(crate) fn session_of(input: &Input<'_>) -> u16
 /// What a step of the ends came to, where it found memory.
 #[derive(Drop)]
 struct Advanced<C> {
-    /// How it is answered.
+    /// How the step is answered.
     stepped: Result<Stepped<C>, NodeFault>,
     /// How many octets of the input were taken.
     taken: usize,
@@ -66,8 +66,8 @@ fn advance<E: Ends, L: Link>(
     })
 }
 
-/// The same, of octets where none were kept of the session: they are heard where they lie, and what is left of them is
-/// kept.
+/// One step where octets come and none were kept of the session: they are heard where they lie, and what is left of
+/// them is kept.
 fn hear_alone<E: Ends, L: Link>(
     ends: &mut E,
     inbox: &mut Inbox,
@@ -99,8 +99,8 @@ fn hear_alone<E: Ends, L: Link>(
     }
 }
 
-/// The same, of octets that are heard behind those that were kept of the session. What is left of them all is kept, and
-/// nothing where memory is wanting once they came.
+/// One step where octets come behind those that were kept of the session. What is left of them all is kept, and nothing
+/// where memory is wanting once they came.
 fn hear_behind<E: Ends, L: Link>(
     ends: &mut E,
     inbox: &mut Inbox,
@@ -141,7 +141,7 @@ fn hear_behind<E: Ends, L: Link>(
     }
 }
 
-/// The same, of an input that brings no octets. Nothing is kept of the session then.
+/// One step by an input that brings no octets. Nothing is kept of the session then.
 fn turn<E: Ends, L: Link>(
     ends: &mut E,
     inbox: &mut Inbox,

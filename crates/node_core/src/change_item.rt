@@ -120,6 +120,7 @@ fn route_item(instance: InstanceId, prefix: Prefix, hop: Entry) -> Item
     ensures item { result ≡ Item.Route instance hop.label hop.next_hop prefix }
     ensures range { IsTrue (is_in_range result) }
 {
+    // (for its clause: a prefix has at most 32 bits, and no bit set past them)
     let _address = prefix.addr();
     Item::Route {
         instance,
@@ -134,6 +135,7 @@ fn unroute_item(instance: InstanceId, prefix: Prefix) -> Item
     ensures item { result ≡ Item.Unroute instance prefix }
     ensures range { IsTrue (is_in_range result) }
 {
+    // (for its clause: a prefix has at most 32 bits, and no bit set past them)
     let _address = prefix.addr();
     Item::Unroute { instance, prefix }
 }
@@ -143,6 +145,7 @@ fn publish_item(instance: InstanceId, prefix: Prefix, label: Label) -> Item
     ensures item { result ≡ Item.Publish instance label prefix }
     ensures range { IsTrue (is_in_range result) }
 {
+    // (for its clause: a prefix has at most 32 bits, and no bit set past them)
     let _address = prefix.addr();
     Item::Publish {
         instance,
@@ -156,6 +159,7 @@ fn unpublish_item(instance: InstanceId, prefix: Prefix) -> Item
     ensures item { result ≡ Item.Unpublish instance prefix }
     ensures range { IsTrue (is_in_range result) }
 {
+    // (for its clause: a prefix has at most 32 bits, and no bit set past them)
     let _address = prefix.addr();
     Item::Unpublish { instance, prefix }
 }

@@ -33,7 +33,7 @@ pub struct Started<C> {
 /// How an end is.
 pub enum EndState {
     Idle,
-    /// It was opened, and is not up yet.
+    /// The end was opened, and is not up yet.
     Opened,
     Up,
 }

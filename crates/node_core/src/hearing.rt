@@ -43,6 +43,7 @@ pub fn greet(
     ensures hello { IfOk result (λ replies. replies ≡ spelling (Hello me.now) ∷ []) }
 {
     let _event = session.opened();
+    // (for its clause: a name has the form of names)
     let _text = me.text();
     let hello = item_octets(alloc, &Item::Hello { name: *me })?;
     let mut replies = Vec::new(alloc);
@@ -108,7 +109,7 @@ fn keep(records: &mut Vec<Item>, event: ItemEvent) -> Result<Option<ItemCause>, 
     }
 }
 
-/// The octets after so many.
+/// The octets behind a first part of a size.
 fn past(bytes: &[u8], size: usize) -> &[u8]
     requires { size ≤ length bytes.now }
     ensures { result.now ≡ drop size bytes.now }

@@ -9,7 +9,7 @@ use ov_link::Inbox;
 use ov_types::NoMemory;
 use std::alloc::Global;
 
-/// So many inboxes, all empty.
+/// An empty inbox for each session.
 pub(crate) fn empty_inboxes(alloc: Global, sessions: u16) -> Result<Vec<Inbox>, NoMemory>
     ensures { IfOk result (λ inboxes. inboxes.items ≡ nothing_kept sessions) }
 {

@@ -1,5 +1,5 @@
 //! A node of any kind, and its step.
-ghost use Rattle.std.specs.Prelude.{◌≡◌, ◌≢◌, ◌<◌, ◌≤◌, ◌↔◌, ℕ, List, length, not, slice_set, true, false, IfOk};
+ghost use Rattle.std.specs.Prelude.{◌≡◌, ◌≢◌, ◌<◌, ◌↔◌, ℕ, List, length, not, slice_set, true, false, IfOk};
 ghost use Rattle.node_model.specs.Step.{post};
 ghost use Rattle.node_core.specs.Keeping.{AreFew, AreOfLive, AreSwept, kept_at, nothing_kept};
 ghost use Rattle.node_core.specs.Resting.{is_idle, is_up, nothings};

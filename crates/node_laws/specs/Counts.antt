@@ -1,4 +1,4 @@
--- Of several paths with one key, the one that a control node tells its peers.
+-- The path of several with one key that a control node tells its peers.
 use Rattle.std.specs.Prelude.{◌≡◌, ◌<◌, ◌≤◌, ℕ, List, [], ◌∷◌, true, false}
 use Rattle.std.specs.declared.option.Option.TheVariants.{Some}
 use Rattle.std.specs.FinMap.{get}
@@ -50,7 +50,7 @@ pub data Counts (h : Holdings) (k : VpnKey) (p : Path) : Type 0 where
   as_right : HasNoOwn h k → LeadsRight h p → Counts h k p
   as_left : HasNoOwn h k → ((q : Path) → LeadsRight h q → HasKey k q → ⊥) → LeadsLeft h p → Counts h k p
 
--- this route is that of a path that counts at its key
+-- a route is that of a path that counts at its key
 abbrev pub IsCounted : Holdings → VpnKey → VpnRoute → Type 0
 IsCounted h k r = (p : Path) × HasKey k p × HasRoute r p × Counts h k p
 

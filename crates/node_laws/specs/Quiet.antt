@@ -21,7 +21,7 @@ pub record SameButQuiet (h k : Holdings) : Type 0 where
   pub peers : h.peers ≡ k.peers
   pub agents : IsWithout h.agents k.agents
 
--- ---- the same of agents that publish nothing, whatever they subscribed
+-- ---- agents that publish nothing, whatever they subscribed
 abbrev pub PublishesNothing : Map → Type 0
 PublishesNothing told = (i : InstanceId) (prefix : Block) → as_label (get told (Publish i prefix)) ≡ None
 

@@ -36,7 +36,7 @@ pub record IsLeft (k : NodeKind) (start : List Post) (i : ℕ) (failed : Bool) (
   pub sent : failed ≡ false → k.may_send i (post start i).phase ≡ true → p.sent ≡ k.wanted start i
   pub silent : failed ≡ false → k.may_send i (post start i).phase ≡ false → p.sent ≡ (post start i).sent
 
--- of these sessions the lowest that failed is named, and none exactly where none failed
+-- the lowest of some sessions that failed is named, and none exactly where none failed
 pub record IsLowest (sessions : ℕ) (failed : ℕ → Bool) (lowest : Option ℕ) : Type 0 where
   pub named : (s : ℕ) → lowest ≡ Some s
       → (s < sessions) × (failed s ≡ true) × ((i : ℕ) → i < s → failed i ≡ false)

@@ -14,7 +14,8 @@ ghost use Rattle.node_laws.specs.Received.{AreNetworks};
 ghost use Rattle.node_laws.specs.Chain.{all_told, chain_feed, chain_use, early, key_at, own_told};
 ghost use Rattle.node_laws.specs.Chain.{leading_on, right_subnet, second_agent, settled, with_row, without_row};
 
-/// Its feed holds the use of the chain, and is within all ranges; its agents are listed in the order of their sessions.
+/// The feed of the shown chain holds the use of the chain, and is within all ranges; its agents are listed in the order
+/// of their sessions.
 pub fn a_feed_is_ordered()
     ensures held { Member chain_use (uses chain_feed) }
     ensures ordered { AreOrdered chain_feed }

@@ -51,7 +51,7 @@ struct Span {
     said: Verdict,
 }
 
-/// One address more of which this is said.
+/// Adds an address of which a verdict is said.
 fn add(spans: &mut Vec<Span>, address: Addr, said: Verdict) -> Result<(), CaseFault> {
     if let Some(span) = spans.last_mut() {
         if span.said == said && span.last.0.abs_diff(address.0) == 1 {

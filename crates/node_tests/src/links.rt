@@ -7,7 +7,7 @@ use ov_link::{FailingLink, Links};
 use ov_types::NoMemory;
 use std::alloc::Global;
 
-/// So many links, on which nothing is to fail.
+/// As many links as are counted, on which nothing is to fail.
 pub(crate) fn with_count(alloc: Global, count: u16) -> Result<Links<FailingLink>, CaseFault> {
     let mut links = Links::new(alloc);
     match add(alloc, count, &mut links) {
@@ -63,7 +63,7 @@ fn forget(link: &mut FailingLink, out: &mut TextOut) -> Result<(), NoMemory> {
     out.push(b"done")
 }
 
-/// Of the sends from now on the nth is to fail.
+/// Lets the nth send from now on fail.
 fn fail_at(link: &mut FailingLink, n: u32, out: &mut TextOut) -> Result<(), CaseFault> {
     if n == 0 {
         return Err(CaseFault::Unreadable);

@@ -10,7 +10,7 @@ pub(crate) trait Node: Drop {
     /// The node that these words say.
     fn made(alloc: Global, words: &str) -> Result<Self, CaseFault>;
 
-    /// How many sessions it has.
+    /// How many sessions the node has.
     fn session_count(&self) -> u16;
 
     /// What comes of it that a session is opened.

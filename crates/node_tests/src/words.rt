@@ -30,7 +30,7 @@ pub(crate) fn id(word: &str) -> Result<NodeId, CaseFault> {
     })
 }
 
-/// So many nodes.
+/// The nodes that words name, each with its address.
 pub(crate) fn ids(alloc: Global, words: &str) -> Result<Items<NodeId>, CaseFault> {
     let mut ids = Items::new(alloc);
     match push_ids(words, &mut ids) {

@@ -28,7 +28,7 @@ IsSaid Ended.NoMemory front heard told = told ≡ Some (advised On.NoMemory)
 abbrev line : List ℕ → List ℕ
 line sentence = codes "overlay: " ++ (sentence ++ (10 ∷ []))
 
--- of each status that is told by itself this is the line, whatever was written and kept
+-- the line of each status that is told by itself, whatever was written and kept
 pub record EachEndHasItsLine : Type 0 where
   pub read_fault : (front : List ℕ) (heard : KeptInput) (told : Option (List ℕ)) → IsSaid Ended.ReadFault front heard told
       → told ≡ Some (line (codes "standard input could not be read: give it a file or a pipe that is open"))

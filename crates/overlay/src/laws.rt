@@ -13,7 +13,8 @@ pub fn blanks_are_one()
     ensures { BlanksAreOne }
 {}
 
-/// Of `decode` digits are kept for people, and of each other command that reads an input a document.
+/// For people digits are kept of the input of `decode`, and a document of the input of each other command that reads
+/// one.
 pub fn each_input_is_kept()
     ensures { EachInputIsKept }
 {}

@@ -34,7 +34,7 @@ answer_lines n event (Rounds rounds settled) =
 answer_lines n event (Shown rows) = lines_shown n event rows
 answer_lines n event (Traced outcome) = outcome_line n outcome
 
--- the same where ties are kept: an edit that would break a tie is refused with it
+-- what an event answers where ties are kept: an edit that would break a tie is refused with it
 abbrev pub tied_answer_lines : ℕ → Event → TiedAnswer → List ℕ
 tied_answer_lines n event (Answered answer) = answer_lines n event answer
 tied_answer_lines n event (EditTied tie) = decimal n ++ (codes " refused Tied " ++ (tie_text tie ++ (10 ∷ [])))

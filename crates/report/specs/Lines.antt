@@ -48,6 +48,6 @@ notification_line code subcode = codes "notification " ++ code_text code subcode
 unfoldable pub fault_line : ℕ → ℕ → List ℕ
 fault_line code subcode = codes "fault " ++ code_text code subcode
 
--- so many octets that a message only begins with
+-- how many octets there are that a message only begins with
 unfoldable pub incomplete_line : ℕ → List ℕ
 incomplete_line octets = codes "incomplete " ++ (decimal octets ++ (10 ∷ []))

@@ -29,7 +29,7 @@ asked_text asked = list_text (λ a. target_text a.target.0) asked
 unfoldable pub asked_line : List ℕ → List Asked → List ℕ
 asked_line node asked = codes "asked " ++ (node ++ (codes " " ++ (asked_text asked ++ (10 ∷ []))))
 
--- of so many routes that a control node would tell its peers, so many are sent to a peer that asks
+-- how many of the routes that a control node would tell its peers are sent to a peer that asks
 unfoldable pub sent_line : List ℕ → List ℕ → ℕ → ℕ → List ℕ
 sent_line from to sent all =
     codes "sent " ++ (from ++ (codes " " ++ (to ++ (codes " " ++ (decimal sent ++ (codes " of "

@@ -54,7 +54,7 @@ impl TargetsText {
         })
     }
 
-    /// Makes the text of these targets, unless it is that of the same.
+    /// Makes the text of targets, unless the text that is kept is that of the same ones.
     pub fn know(&mut self, alloc: Global, targets: &Targets) -> Result<(), NoMemory>
         ensures { OnOk result (self.new ≡ targets.now) }
     {

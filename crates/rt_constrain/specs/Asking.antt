@@ -30,7 +30,7 @@ asked h = in_order asked_order (map (asked_for h.asn) (flat_map (imports h.feed)
 abbrev pub cut : Holdings → Holdings
 cut h = cut_to (covers (asked h)) h
 
--- ---- the same, as a relation
+-- ---- what is asked for, said as a relation
 -- the whole target of an import of a needed instance, asked by the system's own number
 pub record IsAskedFor (h : Holdings) (a : Asked) : Type 0 where
   pub instance : InstanceId

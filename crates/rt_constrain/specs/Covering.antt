@@ -11,7 +11,8 @@ use Rattle.rt_membership.specs.Asked.{IsAsked}
 abbrev pub agree : ℕ → Target → Target → Bool
 agree length t u = t.0 / 2 ^ (96 - length) == u.0 / 2 ^ (96 - length)
 
--- of length 0 all routes are asked; else those with a target that has its bits. Who asks is passed over
+-- an entry asks for all routes where its length is 0, and else for those with a target that has its bits. Who asks is
+-- passed over
 abbrev pub is_covered_by : List Target → Asked → Bool
 is_covered_by targets a = a.length == 0 || list_any (λ t. agree a.length t a.target) targets
 
@@ -23,7 +24,7 @@ covers asked r = list_any (is_covered_by r.targets) asked
 abbrev pub AreAsked : List Asked → Type 0
 AreAsked asked = AllByRecursion IsAsked asked
 
--- ---- the same, as relations
+-- ---- what is covered, said as relations
 -- a target begins with the bits of what is asked: behind them it has any others
 pub record BeginsWith (a : Asked) (t : Target) : Type 0 where
   pub others : ℕ

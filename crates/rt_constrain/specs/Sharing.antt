@@ -10,6 +10,6 @@ use Rattle.rt_constrain.specs.declared.sharing.Share.{Share}
 abbrev pub count : Map → ℕ
 count routes = length (entries routes)
 
--- those that are asked, of all
+-- how many routes are asked for, and how many there are in all
 abbrev pub share : List Asked → Map → Share
 share asked routes = record { sent = count (restricted (covers asked) routes); all = count routes }

@@ -74,7 +74,7 @@ fn reasons(alloc: Global, keys: &[UpKey]) -> Result<Vec<InstanceId>, NoMemory>
     Ok(instances)
 }
 
-/// Those of these instances that are known.
+/// The instances among some that are known.
 fn known_among(
     alloc: Global,
     tables: &VpnTables,

@@ -10,18 +10,19 @@ use ov_types::{VpnKey, VpnRoute};
 use rt_membership::Asked;
 use std::collections::BTreeMap;
 
-/// Of so many routes, so many are sent.
+/// How many routes there are, and how many of them are sent.
 #[derive(Clone, Copy)]
 pub struct Share {
     pub sent: usize,
     pub all: usize,
 }
 
-/// How many of these routes are asked.
+/// How many of some routes are asked for.
 fn covered_among(routes: &BTreeMap<VpnKey, VpnRoute>, asked: &[Asked]) -> usize
     requires { AreAsked asked.now }
     ensures { result ≡ length (filter (λ e. covers asked.now e.1) routes.now.entries) }
 {
+    // (for its clause: the routes are fewer than 2^64, so that their count does not overflow)
     let _all = routes.len();
     let mut count = 0;
     for (_, route) in routes.iter() {
@@ -32,8 +33,8 @@ fn covered_among(routes: &BTreeMap<VpnKey, VpnRoute>, asked: &[Asked]) -> usize
     count
 }
 
-/// How many of the routes that a control node would tell its peers are sent to one that asks so, and how many they are
-/// in all. It takes no memory.
+/// How many of the routes that a control node would tell its peers are sent to a peer that asks for some targets, and
+/// how many routes there are in all. It takes no memory.
 pub fn share_of(routes: &BTreeMap<VpnKey, VpnRoute>, asked: &[Asked]) -> Share
     requires { AreAsked asked.now }
     ensures { result ≡ share asked.now (peer_of routes.now.entries) }

@@ -43,7 +43,7 @@ PlacesSayWhatSessionsAre =
     → AreAt seats a b p far
     → (s : Session) × (session_of w a b ≡ Some s) × SaysAt seats p far s × SaysAt seats far p (turned s)
 
--- and where there is no place there is no session
+-- where there is no place there is no session
 abbrev pub NoPlaceIsNoSession : Type 0
 NoPlaceIsNoSession =
     (seats : List Seat) (w : MachineState) → IsMoment w → StandsFor seats w → (a b : Name)

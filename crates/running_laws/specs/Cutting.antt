@@ -19,7 +19,8 @@ told sent p = record p { sent = sent }
 abbrev pub with_sent : Map → Beginning → Beginning
 with_sent sent given = record given { after = option_map (told sent) given.after }
 
--- the same replies, and the same end: as far, with all that it holds. What was sent on it may differ
+-- two beginnings have the same replies, and the same end: as far, with all that it holds. What was sent on it may
+-- differ
 abbrev pub AreAlike : Beginning → Beginning → Type 0
 AreAlike a b = with_sent empty a ≡ with_sent empty b
 
@@ -56,7 +57,7 @@ WholeIsAsParts who i =
     → (whole : Bor (List ℕ)) → whole.now ≡ octets_in (part ∷ parts)
     → (given' : Beginning) × BeginsAt who i p kept (Bytes i whole) given' left × AreAlike given given'
 
--- and whatever the whole makes of the end, its parts make of it
+-- whatever the whole makes of the end, its parts make of it
 abbrev pub PartsAreAsWhole : Who → ℕ → Type 0
 PartsAreAsWhole who i =
     (p : Post) → is_idle p.phase ≡ false → (kept : List ℕ) (part : Bor (List ℕ)) (parts : List (Bor (List ℕ)))

@@ -13,11 +13,11 @@ use Rattle.machine_laws.specs.MachineModel.Network.{MachineState, control_holdin
 abbrev pub told_by : MachineState → NodeId → Map
 told_by w c = wanted_by_peers (control_holdings w.setup c.name (views_of c.name w.sessions))
 
--- the other control nodes, in the order of the topology
+-- the control nodes but for the one of a name, in the order of the topology
 abbrev pub peers_of : MachineState → Name → List NodeId
 peers_of w name = filter (λ (d : NodeId). not (same_name d.name name)) w.setup.topology.controllers
 
--- it holds of each of its peers what that one is to tell
+-- a control node holds of each of its peers what that one is to tell
 abbrev pub HearsItsPeers : MachineState → NodeId → Type 0
 HearsItsPeers w c =
     (control_holdings w.setup c.name (views_of c.name w.sessions)).peers ≡ map (told_by w) (peers_of w c.name)

@@ -115,7 +115,7 @@ pairs t = (feed_pairs t.controllers ++ peer_pairs t.controllers) ++ access_pairs
 abbrev pub SessionsAreInOrder : Type 0
 SessionsAreInOrder = (w : MachineState) → HasSessions w → map names_of w.sessions ≡ pairs w.setup.topology
 
--- each of these is a place
+-- the two nodes of a pair have a place
 abbrev pub HasPlace : List Seat → NamePair → Type 0
 HasPlace seats q = (p : SessionPlace) × (place_of seats q.0 q.1 ≡ Some p)
 

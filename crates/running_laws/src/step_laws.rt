@@ -29,7 +29,8 @@ pub fn messages_and_notices_are_delivered()
     ensures nothing { NothingIsDelivered }
 {}
 
-/// So does one that takes some octets, which may end within a message. A notice counts as one octet.
+/// A node that takes some of the octets that wait at a place of it, which may end within a message, makes of the seats
+/// those of the state after the delivery. A notice counts as one octet.
 pub fn octets_are_delivered()
     ensures octets { OctetsAreDelivered }
     ensures notices { NoticesCountAsOctets }

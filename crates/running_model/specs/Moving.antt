@@ -40,22 +40,22 @@ retired_of name who = who
 abbrev pub vacated : Name → Seat → Seat
 vacated name n = record (vacated_from (session_with n name) n) { who = retired_of name n.who }
 
--- it goes from the control node of a seat, which tells nobody yet
+-- an agent goes from the control node of a seat, which tells nobody yet
 abbrev pub left_at : Name → Option ℕ → List Seat → List Seat
 left_at name None seats = seats
 left_at name (Some k) seats = with_seat k (vacated name (seat seats k)) seats
 
--- it goes from all these control nodes
+-- an agent goes from all the control nodes of some names
 abbrev pub left_all : Name → List Name → List Seat → List Seat
 left_all name [] seats = seats
 left_all name (c ∷ cs) seats = left_all name cs (left_at name (seat_named seats c) seats)
 
 -- ---- its own seat
--- the agent of this name
+-- a seat is that of the agent of this name
 abbrev pub is_agent_named : Name → Seat → Bool
 is_agent_named name n = same_role Agent (role_of n.who) && same_name (name_of n.who) name
 
--- its seat is taken away, and others stand in its place, or behind all where there was none
+-- the agent's seat is taken away, and others stand in its place, or behind all where there was none
 abbrev pub reseated : Name → List Seat → List Seat → List Seat
 reseated name new [] = new
 reseated name new (n ∷ seats) = if is_agent_named name n then new ++ seats else n ∷ reseated name new seats
@@ -75,7 +75,7 @@ number_in (Some a ∷ agents) = 1 + number_in agents
 abbrev pub number_for : Controls → ℕ
 number_for c = first_agent c + number_in c.agents
 
--- its session is down, with nothing at its end
+-- the control node with the agent, whose session is down, with nothing at its end
 abbrev pub joined_at : Controls → NodeId → Seat → Seat
 joined_at c a n = record {
   who = Controlling (record c { agents = with_agent a c.agents });
@@ -109,7 +109,7 @@ PassesAt None seats after = after ≡ seats
 PassesAt (Some k) seats after =
     (node : Seat) × Passes (seat seats k) node × (after ≡ cleared (with_seat k node seats) k)
 
--- these nodes make their passes, in their order
+-- the nodes of some seats make their passes, in their order
 abbrev pub PassesAll : List Name → List Seat → List Seat → Type 0
 PassesAll [] seats after = after ≡ seats
 PassesAll (c ∷ cs) seats after =
@@ -120,7 +120,7 @@ PassesAll (c ∷ cs) seats after =
 abbrev pub before_passes : Topology → Move → List Seat → List Seat
 before_passes t m seats = came m.now (left_all m.name m.left (reseated m.name (seats_of t m.now) seats))
 
--- then the control nodes that it listed make their passes
+-- a node moves: what `before_passes` says, and then the control nodes that it listed make their passes
 abbrev pub Moves : Topology → Move → List Seat → List Seat → Type 0
 Moves t m seats after = PassesAll m.left (before_passes t m seats) after
 

@@ -84,7 +84,7 @@ whos x =
 -- ---- seats
 pub record Seat : Type 0 where
   pub who : Who
-  -- its end of each session, and the octets that it keeps there: those of a message that is not whole yet
+  -- the node's end of each session, and the octets that it keeps there: those of a message that is not whole yet
   pub posts : List Post
   pub kept : List (List ℕ)
   -- what left that end and was not taken whole, and the sends from now on that are to fail there
@@ -156,7 +156,7 @@ place_at seats b (Some k) = option_map (λ i. record { node = k; session = i }) 
 abbrev pub place_of : List Seat → Name → Name → Option SessionPlace
 place_of seats a b = place_at seats b (seat_named seats a)
 
--- the other end of the session
+-- the place at the other end of the session of a place
 abbrev pub far_of : List Seat → SessionPlace → Option SessionPlace
 far_of seats p =
     option_and_then (λ b. place_of seats b (name_of (seat seats p.node).who)) (other (seat seats p.node) p.session)

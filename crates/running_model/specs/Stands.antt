@@ -71,7 +71,7 @@ pub record IsEnd (n : Seat) (i : ℕ) (s : Session) : Type 0 where
   pub breaks : s.near.breaks ≡ breaks_in n i
   pub taken : s.far.taken ≡ taken_in n i
 
--- it stands among the sessions of the network, with the node of this name at its other end
+-- an end of a seat stands among the sessions of the network, with the node of this name at its other end
 pub record HasEnd (w : MachineState) (n : Seat) (i : ℕ) (b : Name) : Type 0 where
   pub session : Session
   pub found : session_of w (name_of n.who) b ≡ Some session
@@ -111,7 +111,7 @@ KeepsPart seats p =
     (far : SessionPlace) → far_of seats p ≡ Some far → notice_at seats p ≡ false
     → kept_at seats p ≡ take (length (kept_at seats p)) (first_of (link_at seats far))
 
--- these are the seats of the network's nodes, and each end is as its seat has it
+-- some seats are those of the network's nodes, and each end is as its seat has it
 pub record Seats (seats : List Seat) (w : MachineState) : Type 0 where
   pub who : map (λ (n : Seat). n.who) seats ≡ whos w.setup
   pub long : (k : ℕ) → k < length seats → IsLong (seat seats k)

@@ -146,7 +146,7 @@ cleared_at seats p =
     if live_at seats p then (if is_down_at seats p then with_link p [] seats else seats)
     else told_of_loss (with_notice p false (with_link p [] seats)) (far_of seats p)
 
--- those of n sessions, from the one with this number on
+-- n sessions of a node are cleared, from the one with this number on
 abbrev pub cleared_from : ℕ → ℕ → ℕ → List Seat → List Seat
 cleared_from zero k i seats = seats
 cleared_from (suc n) k i seats = cleared_from n k (i + 1) (cleared_at seats (record { node = k; session = i }))

@@ -62,7 +62,7 @@ emptied_at i o = record o {
   notices = slice_set o.notices i false;
 }
 
--- this session of a node is with an agent of this name, and no other one is with a node of the name
+-- one session of a node is with an agent of this name, and no other one is with a node of the name
 pub record IsAlone (name : Name) (i : ℕ) (n : Inner) : Type 0 where
   pub controls : Controls
   pub control : n.who ≡ Controlling controls
@@ -82,7 +82,7 @@ joined_inner_by who a n = n
 abbrev pub joined_inner : NodeId → Inner → Inner
 joined_inner a n = joined_inner_by n.who a n
 
--- one more end
+-- the outer half of a seat, with one more end
 abbrev pub longer_outer : Name → Outer → Outer
 longer_outer name o = record {
   name = o.name;

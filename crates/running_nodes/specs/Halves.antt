@@ -14,7 +14,7 @@ pub record Inner : Type 0 where
   pub kept : List (List ℕ)
 
 pub record Outer : Type 0 where
-  -- its name, and the names at the other ends of its sessions, where there is somebody
+  -- the node's name, and the names at the other ends of its sessions, where there is somebody
   pub name : Name
   pub others : List (Option Name)
   -- what left each of its ends and was not taken, the sends that are to fail there, and where a notice waits

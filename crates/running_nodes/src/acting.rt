@@ -67,6 +67,7 @@ pub(crate) fn take_control(
         input.entry) }
     ensures vacated { IsVacated node.new }
 {
+    // (for its clause: the retired numbers ascend, and each is that of an agent's session)
     let _retired = node.is_retired(0);
     let _stepped = node.step(input, links);
     if node.failed() {
@@ -90,6 +91,7 @@ pub(crate) fn leave_control(
     ensures err { OnErr result (node.new ≡ node.old) }
     ensures vacated { IsVacated node.new }
 {
+    // (for its clause: the retired numbers ascend, and each is that of an agent's session)
     let _retired = node.is_retired(0);
     node.retire_agent(session)
 }
@@ -111,6 +113,7 @@ pub(crate) fn tell_control(
     ensures passes { IfOk result (λ _. PassesOver links.old links.new (controlled node.old) (controlled node.new)) }
     ensures vacated { IsVacated node.new }
 {
+    // (for its clause: the retired numbers ascend, and each is that of an agent's session)
     let _retired = node.is_retired(0);
     let _told = node.tell(links);
     if node.failed() {
@@ -132,6 +135,7 @@ pub(crate) fn join_control(node: &mut ControlNode, agent: NodeId) -> Result<u16,
     ensures err { OnErr result (node.new ≡ node.old) }
     ensures vacated { IsVacated node.new }
 {
+    // (for its clause: the retired numbers ascend, and each is that of an agent's session)
     let _retired = node.is_retired(0);
     node.add_agent(agent)
 }
@@ -159,6 +163,7 @@ pub(crate) fn take_agent(
     let _stepped = node.step(input, links);
     if node.failed() {
         node.restart();
+        // (for its clause: an agent that did not fail forwards by what it holds)
         let _failed = node.failed();
         return Err(NoMemory);
     }
@@ -181,6 +186,7 @@ pub(crate) fn restart_agent(node: &mut AgentNode)
     ensures right { IsRight node.new }
 {
     node.restart();
+    // (for its clause: an agent that did not fail forwards by what it holds)
     let _failed = node.failed();
 }
 
@@ -202,8 +208,8 @@ pub(crate) fn show_agent(node: &AgentNode) -> Result<NodeRows, NoMemory>
     Ok(NodeRows::Agent(rows))
 }
 
-/// Another configuration, of the same control nodes, is valid at the configuration node, and each session is told what
-/// is wanted then.
+/// Sets the valid configuration of the configuration node to another, of the same control nodes, and tells each session
+/// what is wanted then.
 pub(crate) fn set_config(
     node: &mut ConfigNode,
     valid: Valid,
@@ -219,6 +225,7 @@ pub(crate) fn set_config(
     ensures links { length links.new ≡ length links.old }
     ensures sets { IfOk result (λ _. SetsOver links.old links.new (configured node.old) (configured node.new) valid) }
 {
+    // (for its clauses: the configuration is valid and of the written form)
     let _valid = node.valid();
     match node.set_valid(valid, links) {
         Ok(()) => Ok(()),

@@ -206,8 +206,8 @@ impl Cores {
         self.config.valid()
     }
 
-    /// Another configuration, of the same control nodes, is valid at the configuration node, which tells each of them
-    /// what is wanted then.
+    /// Sets the valid configuration of the configuration node to another, of the same control nodes, and tells each of
+    /// them what is wanted then.
     pub(crate) fn set_valid(
         &mut self,
         valid: Valid,

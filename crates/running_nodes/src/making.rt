@@ -109,6 +109,7 @@ fn add_agent(
     let others = others_of_agent(alloc, &plan)?;
     let edge = Edge::new(alloc, node.name, others)?;
     let agent = AgentNode::new(alloc, plan)?;
+    // (for its clause: an agent that did not fail forwards by what it holds)
     let _failed = agent.failed();
     agents.reserve(1)?;
     edges.reserve(1)?;
@@ -194,8 +195,8 @@ fn put_last(place: Option<u16>, first: usize, agents: &mut Vec<AgentNode>, edges
     }
 }
 
-/// Another agent, or none, is in the place of the one at a place, or behind all where there is no place, and so with
-/// their edges, which come behind so many others. Where memory is wanting, nothing changes.
+/// Puts another agent, or none, in the place of the one at a place, or behind all where no place is given, and does the
+/// same with their edges, of which the first stands at a given number. Where memory is wanting, nothing changes.
 pub(crate) fn reseat_agent(
     alloc: Global,
     topology: &Topology,

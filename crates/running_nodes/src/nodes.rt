@@ -67,7 +67,7 @@ fn restart_at(cores: &mut Cores, edges: &mut [Edge], node: u16)
     edges[usize::from(node)].restart();
 }
 
-/// Another configuration, of the same control nodes, is valid at the configuration node.
+/// Sets the valid configuration of the configuration node to another, of the same control nodes.
 fn set_valid_at(cores: &mut Cores, edges: &mut [Edge], valid: Valid) -> Result<(), NoMemory>
     requires halves { AreAllHalves cores.old edges.old }
     requires same { (x : Checked) → (seat (joined cores.old edges.old) 0).who ≡ Configuring x
@@ -75,6 +75,7 @@ fn set_valid_at(cores: &mut Cores, edges: &mut [Edge], valid: Valid) -> Result<(
     ensures halves { AreAllHalves cores.new edges.new }
     ensures configures { IfOk result (λ _. Configures (joined cores.old edges.old) valid (joined cores.new edges.new)) }
 {
+    // (for its clauses: the first node is the configuration node)
     let _valid = cores.valid();
     let edge = &mut edges[0];
     cores.set_valid(valid, &mut edge.links)
@@ -166,6 +167,7 @@ fn join_at(
         ≡ with_seat node (joined_by_agent agent (seat (joined cores.old edges.old.items) node))
         (joined cores.old edges.old.items)) }
 {
+    // (for its clauses: the first node is the configuration node)
     let _valid = cores.valid();
     match join_over(cores, &mut edges[usize::from(node)], node, agent) {
         Ok(()) => Ok(()),
@@ -186,7 +188,7 @@ fn agent_named(edges: &[Edge], first: usize, name: &Name) -> Option<u16>
     edge_named(&edges[first..], name)
 }
 
-/// Another agent, or none, is in the place of the first one of a name, or behind all where none has the name.
+/// Puts another agent, or none, in the place of the first one of a name, or behind all where none has the name.
 fn reseat_at(
     cores: &mut Cores,
     edges: &mut Vec<Edge>,
@@ -308,7 +310,7 @@ impl Nodes {
         }
     }
 
-    /// The other end of a session, where there is somebody.
+    /// The place at the other end of a session, where there is somebody.
     pub fn far_of(&self, place: SessionPlace) -> Option<SessionPlace>
         requires node { place.node < length self.now.seats }
         requires session { place.session < length (seat self.now.seats place.node).posts }
@@ -485,8 +487,8 @@ impl Nodes {
         self.cores.valid()
     }
 
-    /// Another configuration, of the same control nodes, is valid at the configuration node, which tells each of them
-    /// what is wanted then.
+    /// Sets the valid configuration of the configuration node to another, of the same control nodes, and tells each of
+    /// them what is wanted then.
     pub fn set_valid(&mut self, valid: Valid) -> Result<(), NoMemory>
         requires same { (x : Checked) → (seat self.old.seats 0).who ≡ Configuring x
             → valid.topology.controllers ≡ x.topology.controllers }
@@ -540,7 +542,7 @@ impl Nodes {
         }
     }
 
-    /// Another agent, or none, is in the place of the first one of a name, or behind all where none has the name.
+    /// Puts another agent, or none, in the place of the first one of a name, or behind all where none has the name.
     pub fn reseat(
         &mut self,
         alloc: Global,

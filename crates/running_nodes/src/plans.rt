@@ -33,7 +33,7 @@ pub fn lists(node: &Node, controller: &NodeId) -> bool
         .any(|name| controller.name == *name)
 }
 
-/// The other control nodes.
+/// The control nodes but for the one of this name.
 fn peers_of(alloc: Global, controllers: &[NodeId], me: &NodeId) -> Result<Vec<NodeId>, AllocError>
     ensures { IfOk result (λ peers. peers.items ≡ filter (λ d. not (same_name d.name me.now.name)) controllers.now) }
 {

@@ -9,7 +9,7 @@ use Rattle.config_types.specs.declared.config.Policy.{Policy}
 use Rattle.policy_rules.specs.Related.{are_related}
 use Rattle.config_check.specs.Between.{also_leads}
 
--- one of these policies, which a network attaches, relates it to another
+-- one of some policies, which a network attaches, relates it to another
 abbrev pub is_related_by : List Policy → Network → Network → Bool
 is_related_by ps m n = not (same_name m.name n.name) && list_any (also_leads m n) ps
 

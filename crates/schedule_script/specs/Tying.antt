@@ -25,12 +25,12 @@ use Rattle.schedule_script.specs.Ties.{Ties}
 abbrev pub network_id : Config → List ℕ → Option InstanceId
 network_id c name = option_map (λ n. n.id) (network_named c name)
 
--- of the network that an end of a rule names
+-- the number of the network that an end of a rule names
 abbrev pub end_id : Config → End → Option InstanceId
 end_id c Any = None
 end_id c (Named name) = network_id c name
 
--- of the network of a port
+-- the number of the network of a port
 abbrev pub home_id : Config → Port → Option InstanceId
 home_id c p = network_id c p.network
 
@@ -46,7 +46,7 @@ pair_of _ _ = None
 abbrev pub ends_of : Config → Rule → Option (InstanceId × InstanceId)
 ends_of c r = pair_of (end_id c r.source) (end_id c r.destination)
 
--- those of a chain rule of this use number
+-- the two networks that a chain rule of this use number names
 abbrev pub ends_by : Config → Rule → ℕ → Action → Option (InstanceId × InstanceId)
 ends_by c r number Pass = None
 ends_by c r number Deny = None
@@ -83,7 +83,7 @@ no_ties = record {
   name = λ address. None;
 }
 
--- with what is valid then: a number, a name and an address keep their first ties
+-- the ties with what is valid then: a number, a name and an address keep their first ties
 abbrev pub joined : Ties → Checked → Ties
 joined t x = record {
   port = λ p. t.port p <|> port_network x.config p;

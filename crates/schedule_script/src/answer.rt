@@ -5,13 +5,13 @@ use ov_types::{NodeRows, Outcome};
 /// What an event answers.
 #[derive(Drop)]
 pub enum Answer {
-    /// It was done, and there is nothing to tell.
+    /// What the event asks was done, and there is nothing to tell.
     Did,
     /// There was nothing to do.
     Idle,
     /// The edit was not made, and all is as it was.
     EditRefused(EditFault),
-    /// So many rounds were done, and whether the network is settled after them.
+    /// A number of rounds was done, and whether the network is settled after them.
     Rounds { rounds: u32, settled: bool },
     /// The tables of the node.
     Shown(NodeRows),

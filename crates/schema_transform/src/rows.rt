@@ -49,7 +49,7 @@ fn host_route(instance: InstanceId, home: &Network, node: &Node, port: &Port) ->
     (key, row)
 }
 
-/// Of each network in order whether a network imports it.
+/// Whether a network imports each of the networks, in their order.
 fn imported_by(alloc: Global, config: &Config, network: &Network) -> Result<Vec<bool>, NoMemory>
     ensures { IfOk result (λ list. list.items ≡ map (imports config.now network.now) config.now.networks) }
 {
@@ -236,7 +236,8 @@ fn push_subnet_rows(
     }
 }
 
-/// Appends the same towards a circuit, where it is in the instance.
+/// Appends, where a circuit is in the instance, the subnets of a network that hold a port of it, each towards the
+/// circuit.
 fn push_rows_if_in(
     topology: &Topology,
     config: &Config,
@@ -254,7 +255,8 @@ fn push_rows_if_in(
     push_subnet_rows(topology, config, instance, network, circuit, rows)
 }
 
-/// Appends the same towards each of the circuits that are in the instance.
+/// Appends, for each of the circuits that are in the instance, the subnets of a network that hold a port of it, each
+/// towards the circuit.
 fn push_rows_towards(
     topology: &Topology,
     config: &Config,

@@ -20,7 +20,7 @@ use Rattle.rt_constrain.specs.Sharing.{share}
 use Rattle.rt_constrain.specs.declared.sharing.Share.{Share}
 use Rattle.top_call.specs.declared.asking.Asking.{Asking}
 
--- each of these is a control node of a topology
+-- some nodes are control nodes of a topology
 abbrev pub AreControlNodes : Topology → List NodeId → Type 0
 AreControlNodes t cs = AllByRecursion (λ (c : NodeId). is_control_node t c.name ≡ true) cs
 
@@ -42,7 +42,8 @@ line_of a = asked_line a.node a.asked
 abbrev pub line_of_share : Name → Name → Share → List ℕ
 line_of_share from to s = sent_line from to s.sent s.all
 
--- of the routes that a control node would tell its peers, those that another one asks. It tells itself nothing
+-- the line of how many routes that a control node would tell its peers another one asks for. A control node tells
+-- itself nothing
 abbrev pub sent_to : Name → Map → Asking → List ℕ
 sent_to from routes a =
     if same_name from a.node then [] else line_of_share from a.node (share a.asked routes)

@@ -9,14 +9,15 @@ use Rattle.compile_answers.specs.Answers.{DocumentAnswer, answer_bad, answer_che
 use Rattle.ov_json.specs.Json.{json_of}
 use Rattle.top_call.specs.Constraint.{constrain_text}
 
--- of a topology and a configuration that were read, or not, it writes what control nodes ask and send
+-- what `constrain` answers to a topology and a configuration that were read, or not: it writes what control nodes ask
+-- and send
 abbrev pub constrain_reading : Result CompileInput Fault → DocumentAnswer
 constrain_reading (Err f) = answer_bad f
 constrain_reading (Ok p) =
     answer_checked (first_broken p.topology p.config)
     (constrain_text (record { topology = p.topology; config = p.config }))
 
--- of a value `constrain` reads what `compile` reads
+-- what `constrain` answers to a value, of which it reads what `compile` reads
 unfoldable pub constrain_value : Data → DocumentAnswer
 constrain_value d = constrain_reading (compile_at [] d)
 

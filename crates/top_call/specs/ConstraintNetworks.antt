@@ -63,7 +63,7 @@ pub record NeedsNoMore (h : Holdings) : Type 0 where
   pub agents : (a : Told) → Member a h.agents → wanted_by_agent (cut h) a ≡ wanted_by_agent h a
   pub tables : (i : InstanceId) → Member i (needed h) → table (cut h) i ≡ table h i
 
--- each of these control nodes of a network
+-- each of some control nodes of a network needs no more than it asks
 abbrev pub EachNeedsNoMore : MachineState → List NodeId → Type 0
 EachNeedsNoMore w cs = AllByRecursion (λ (c : NodeId). NeedsNoMore (held_at w c.name)) cs
 

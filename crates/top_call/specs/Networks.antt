@@ -29,7 +29,7 @@ MayLeave (Some Run) = ⊤
 MayLeave (Some (Gen n)) = ⊤
 MayLeave _ = ⊥
 
--- and only where all was written
+-- a command leaves a network only where all was written
 abbrev pub LeavesOn : Command → List ℕ → Result Reception WriteRefusal → Option NetState → Type 0
 LeavesOn command octets result left = LeftOn (Leaves command octets) result left
 

@@ -9,14 +9,14 @@ use Rattle.compile_answers.specs.Answers.{DocumentAnswer, answer_bad, answer_che
 use Rattle.ov_json.specs.Json.{json_of}
 use Rattle.top_call.specs.Schedules.{run_text}
 
--- of what was read for `run`, or not, it writes the answers of the events
+-- what `run` answers to what was read for it, or not: it writes the answers of the events
 abbrev pub run_reading : Result RunInput Fault → DocumentAnswer
 run_reading (Err f) = answer_bad f
 run_reading (Ok r) =
     answer_checked (first_broken r.input.topology r.input.config)
     (run_text (record { topology = r.input.topology; config = r.input.config }) r.events)
 
--- of a value `run` reads events too
+-- what `run` answers to a value, of which it reads events too
 unfoldable pub run_value : Data → DocumentAnswer
 run_value d = run_reading (run_at [] d)
 

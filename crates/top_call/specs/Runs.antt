@@ -29,7 +29,7 @@ abbrev pub OfInput : Option Command → Option (List ℕ) → (Command → List 
 OfInput None held Fact = ⊥
 OfInput (Some command) held Fact = OfOctets (input_to command held) (Fact command)
 
--- the same where a command was given
+-- a fact of the command that was given and of its input, where a command was given
 abbrev pub IfInput : Option Command → Option (List ℕ) → (Command → List ℕ → Type 0) → Type 0
 IfInput None held Fact = ⊤
 IfInput (Some command) held Fact = OfOctets (input_to command held) (Fact command)

@@ -9,6 +9,6 @@ use Rattle.scenario_gen.specs.Scenario.{scenario}
 abbrev pub opening : ℕ → Checked
 opening n = record { topology = (scenario n).topology; config = (scenario n).config }
 
--- its events, and then one trace for each of its packets
+-- the events of a scenario, and then one trace for each of its packets
 abbrev pub schedule : ℕ → List Event
 schedule n = (scenario n).events ++ map Trace (scenario n).packets

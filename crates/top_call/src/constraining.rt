@@ -100,6 +100,7 @@ pub fn answer_constrain<K: Sink>(
 {
     match constrain_asked(alloc, octets) {
         Ok(valid) => {
+            // (for its clause: the configuration is valid and of the written form)
             know_valid(&valid);
             let settled = settled_and_written(alloc, valid, sink)?;
             leave(net, settled);

@@ -140,6 +140,7 @@ fn run_scenario(
     ensures kept { OnErr result (net.new ≡ net.old) }
     ensures written { IsTrue (list_all has_event_form (schedule n)) }
 {
+    // (for its clause: the schedule of a scenario has few events)
     know_short(n);
     let Ran { net: took, tally } = run_counted(alloc, valid, events)?;
     leave(net, took);

@@ -155,6 +155,7 @@ fn run_written<K: Sink>(
 pub(crate) fn know_valid(valid: &Valid)
     ensures { IsWritten (opening valid.now) }
 {
+    // (for its clauses: the configuration is valid and of the written form)
     let _topology = valid.topology();
 }
 
@@ -176,6 +177,7 @@ pub fn answer_run<K: Sink>(
     leave_none(net);
     match schedule_asked(alloc, octets) {
         Ok(Schedule { valid, events }) => {
+            // (for its clause: the configuration is valid and of the written form)
             know_valid(&valid);
             let took = run_written(alloc, valid, events.into_vec(), sink)?;
             leave(net, took);

@@ -57,7 +57,8 @@ fn write_askings<K: Sink>(
     Ok(())
 }
 
-/// Hands on the line of how much of these routes a control node sends to one that asks so, unless it is the same one.
+/// Hands on the line of how much of some routes a control node sends to another one, by what that one asks. A control
+/// node sends nothing to itself, and so has no such line.
 #[tactic(auto, using(ov_io::proofs::PieceLemmas::took_nothing))]
 fn write_sent_to<K: Sink>(
     alloc: Global,

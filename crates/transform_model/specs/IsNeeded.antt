@@ -30,13 +30,14 @@ pub record HasPortAt (t : Topology) (c : Config) (a : Addr) (n : Network) : Type
 
 -- the agent at an address needs an instance
 pub data IsNeeded (t : Topology) (c : Config) (a : Addr) (i : InstanceId) : Type 0 where
-  -- that of the network of a port there, and of a circuit there
+  -- the instance of the network of a port there, and of a circuit there
   by_port : (n : Network) → HasPortAt t c a n → i ≡ n.id → IsNeeded t c a i
   by_circuit : (u : ConfiguredUse) (j : ℕ) (k : Circuit) (node : Node) → IsUse c u → IsLeftCircuit u j k ⊎ IsRightCircuit u j k
       → IsCircuitAt t k node → a ≡ node.address → i ≡ circuit_instance_of k.number → IsNeeded t c a i
   -- where packets of a port there enter a chain: that of the first hop, from the left network
   by_first_hop : (u : ConfiguredUse) → IsUse c u → HasPortAt t c a u.left → i ≡ hop_instance_of u.number 0 → IsNeeded t c a i
-  -- and that of the last, from the right network, by a rule of both directions
+  -- where packets of a port there enter a chain from the right network, by a rule of both directions: the instance of
+  -- the last hop
   by_last_hop : (u : ConfiguredUse) (used : IsUse c u) → used.rule.direction ≡ BothWays → HasPortAt t c a u.right
       → i ≡ hop_instance_of u.number (length u.services) → IsNeeded t c a i
 

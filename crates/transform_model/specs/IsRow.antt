@@ -46,7 +46,7 @@ pub data IsRow (t : Topology) (c : Config) (i : InstanceId) (r : Row) : Type 0 w
   to_left_circuit : (u : ConfiguredUse) (j : ℕ) (k : Circuit) (node : Node) → IsUse c u → IsLeftCircuit u j k
       → IsCircuitAt t k node → i ≡ hop_instance_of u.number j
       → r ≡ circuit_route i (host_prefix (circuit_address_of k.number).0) k node → IsRow t c i r
-  -- and to the circuit that leads back
+  -- behind service j of a use in effect and before the next, the route to the circuit that leads back
   to_right_circuit : (u : ConfiguredUse) (j : ℕ) (k : Circuit) (node : Node) → IsUse c u → IsRightCircuit u j k
       → IsCircuitAt t k node → i ≡ hop_instance_of u.number (j + 1)
       → r ≡ circuit_route i (host_prefix (circuit_address_of k.number).0) k node → IsRow t c i r

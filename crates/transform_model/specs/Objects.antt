@@ -71,7 +71,7 @@ abbrev pub circuit_objects : Topology → ConfiguredUse → List LowObject
 circuit_objects t u = filter_map (circuit_object t) (left_circuits u ++ right_circuits u)
 
 -- ---- access lists
--- of a network towards itself and towards each that is related to it
+-- the access list of a network towards itself and towards each that is related to it
 abbrev pub acl_object : Config → Network → Network → LowObject
 acl_object c a b = (Key.Acl a.id.0 b.id.0, acl_value c a b)
 

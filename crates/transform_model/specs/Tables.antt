@@ -35,7 +35,7 @@ host_route i b d p = (
   record { rd = distinguisher_of d.address b.id; next_hop = d.address; label = port_label_of p.id },
 )
 
--- the same, where it is asked for
+-- the route to a port in an instance, where it is asked for
 abbrev pub row_if : Bool → InstanceId → Network → Port → Option Node → Option Row
 row_if false i b p d = None
 row_if true i b p d = option_map (λ d. host_route i b d p) d

@@ -29,7 +29,7 @@ abbrev pub network_at : Config → End → Option Network
 network_at c Any = None
 network_at c (Named name) = network_named c name
 
--- it is in effect where both networks attach the policy of its rule
+-- a use is in effect where both networks attach the policy of its rule
 abbrev pub use_between : Config → Policy → List ℕ → ℕ → Option Network → Option Network → Option ConfiguredUse
 use_between c p chain number (Some left) (Some right) =
     if attaches left p && attaches right p

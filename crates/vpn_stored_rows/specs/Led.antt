@@ -11,7 +11,7 @@ use Rattle.node_model.specs.Uses.{use_from}
 use Rattle.vpn_tables.specs.Answers.{side_at}
 use Rattle.vpn_tables.specs.Leading.{leads, sides_of_held}
 
--- those of the use of a number: none where none is held
+-- the re-originated routes of the use of a number: none where none is held
 abbrev pub routes_at : Holdings → ℕ → List Path
 routes_at h n = flat_map (leads h) (sides_of_held (use_from n (object h.feed (key.ChainUse n))))
 

@@ -19,7 +19,7 @@ pub record Reached : Type 0 where
   pub up_left : List (List Bool)
   pub routes : List Path
 
--- of the use of a number, by the definitions: nothing where none is held
+-- what follows of the use of a number, by the definitions: nothing where none is held
 abbrev pub reached_at : Holdings → ℕ → Reached
 reached_at h n = record { up_right = ups_at h n true; up_left = ups_at h n false; routes = routes_at h n }
 
@@ -33,7 +33,7 @@ stored_at [] n = record { up_right = []; up_left = []; routes = [] }
 stored_at (s ∷ stored) zero = reached_of s
 stored_at (s ∷ stored) (suc n) = stored_at stored n
 
--- of each held use what follows is stored, at its number
+-- what follows of each held use is stored, at its number
 abbrev pub AreReached : List StoredUse → Holdings → Type 0
 AreReached stored h =
     ((u : Use) → Member u (uses h.feed) → u.number < length stored)

@@ -55,6 +55,7 @@ impl StoredTables {
     pub fn uses_are_short(&self)
         ensures { AreShort self.now.feed }
     {
+        // (for its clause: no held use has more than 15 services)
         self.held.uses_are_short();
     }
 
@@ -227,7 +228,7 @@ impl StoredTables {
         self.held.touched_by_route(session, delta)
     }
 
-    /// Those that a change of what an agent told may change: of a subscription none.
+    /// The rows that a change of what an agent told may change; a subscription changes none.
     pub fn touched_by_publication(
         &self,
         session: u16,

@@ -42,7 +42,7 @@ pub(crate) fn routes_of(
     }
 }
 
-/// Those of a side, by the distance that they lead from.
+/// Appends the routes that lead on along a side, by the distance that they lead from.
 fn lead_side(
     routes: &mut Vec<Route>,
     held: &VpnTables,
@@ -61,7 +61,7 @@ fn lead_side(
     Ok(())
 }
 
-/// Those from a distance, at which these subnets are up, into the next place.
+/// Appends the routes that lead the subnets that are up at a distance into the next place.
 fn lead_into(
     routes: &mut Vec<Route>,
     held: &VpnTables,
@@ -82,7 +82,7 @@ fn lead_into(
     }
 }
 
-/// Those from a distance towards the circuit of the next place, which is published.
+/// Appends the routes that lead from a distance towards the circuit of the next place, which is published.
 fn lead_towards(
     routes: &mut Vec<Route>,
     held: &VpnTables,
@@ -108,7 +108,7 @@ fn lead_towards(
     Ok(())
 }
 
-/// That of a subnet of the side, where it is up.
+/// Appends the route that leads a subnet of the side on, where it is up.
 fn lead_subnet(
     routes: &mut Vec<Route>,
     held: &VpnTables,

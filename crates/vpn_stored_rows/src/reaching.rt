@@ -14,7 +14,7 @@ use vpn_tables::{Side, VpnTables};
 /// Which subnets of a side are up: at each distance from its end, of each of its subnets in order.
 pub(crate) type Ups = Items<Items<bool>>;
 
-/// Those of the use of a number, seen from an end: none where none is held.
+/// The subnets of the use of a number that are up, seen from an end; none where no such use is held.
 pub(crate) fn ups_of(
     alloc: Global,
     held: &VpnTables,
@@ -29,7 +29,7 @@ pub(crate) fn ups_of(
     }
 }
 
-/// Those of a side, by one walk along the use from the side's end.
+/// The subnets of a side that are up, by one walk along the use from the side's end.
 fn ups_of_side(alloc: Global, held: &VpnTables, side: &Side<'_>) -> Result<Ups, NoMemory>
     requires held { IsHeldSide held.now side.now }
     ensures { IfOk result (λ ups. ups ≡ ups_of held.now side.now) }
@@ -57,7 +57,7 @@ fn up_at_end(alloc: Global, held: &VpnTables, side: &Side<'_>) -> Result<Items<b
     Ok(up)
 }
 
-/// Which of them are up one place farther than at a distance, from which are there.
+/// Which subnets of a side are up one place farther, from which are up at a distance.
 fn up_next(
     alloc: Global,
     held: &VpnTables,
@@ -112,6 +112,7 @@ fn is_up(held: &VpnTables, side: &Side<'_>, distance: u8, subnet: &Prefix) -> bo
     requires within { distance ≤ side.now.chain.services }
     ensures { result ≡ is_up held.now side.now subnet.now distance }
 {
+    // (for its clause: no held use has more than 15 services)
     held.uses_are_short();
     held.up(side.hop_at(distance), subnet, side.is_right())
 }

@@ -150,6 +150,7 @@ fn change_route<L: Ledger>(
     ensures steps { steps.new ≤ steps.old + touched held.old (targets_by_route held.old session delta) }
 {
     let touched = touched_by_route(alloc, held, session, &delta)?;
+    // (for its clause: no held use has more than 15 services)
     held.uses_are_short();
     held.set_peer_route(session, delta)?;
     let keys = touched.as_slice();
@@ -237,6 +238,7 @@ fn change_publication<L: Ledger>(
     ensures steps { steps.new ≤ steps.old + touched held.old (targets_by_publication held.old session delta) }
 {
     let touched = touched_by_publication(alloc, held, session, &delta)?;
+    // (for its clause: no held use has more than 15 services)
     held.uses_are_short();
     held.set_publication(session, delta)?;
     let keys = touched.as_slice();
@@ -359,7 +361,7 @@ impl StoredTables {
         listed(self.alloc, &self.rows, i)
     }
 
-    /// The same for a caller that counts nothing.
+    /// Applies a change of a peer's route, for a caller that counts nothing.
     pub fn set_peer_route(
         &mut self,
         session: u16,
@@ -371,7 +373,7 @@ impl StoredTables {
         set_route_on::<Brand>(self, session, delta, Blank::new(1))
     }
 
-    /// The same for a caller that counts nothing.
+    /// Applies a change of an agent's publication, for a caller that counts nothing.
     pub fn set_publication(
         &mut self,
         session: u16,
@@ -452,6 +454,7 @@ fn store_all<L: Ledger>(
     requires some { 0 < blank.parts }
     ensures { OnOk result (AreRows rows.new held.now) }
 {
+    // (for its clause: no held use has more than 15 services)
     held.uses_are_short();
     rows.reset();
     let keys = all_keys(alloc, held)?;

@@ -31,7 +31,7 @@ up_key _ _ = None
 abbrev pub keys_told : Told → List UpKey
 keys_told a = filter_map (λ e. up_key e.0 e.1) (entries a.map)
 
--- and of what all agents told, one after the other
+-- the keys of what all agents told, one after the other
 abbrev pub held_keys : Holdings → List UpKey
 held_keys h = flat_map keys_told h.agents
 

@@ -126,7 +126,7 @@ path_of_route wanted k (Some r) =
     then Some (record { session = k.session; rd = k.rd; next_hop = r.next_hop; label = r.label })
     else None
 
--- that of the route that is told at a place with its prefix
+-- the path of the route that is told at a place with its prefix, where it has a wanted target
 abbrev pub route_path : Holdings → List Target → RouteAt × Block → Option Path
 route_path h wanted e =
     path_of_route wanted e.0 (route_of h.peers e.0.session (record { rd = e.0.rd; prefix = e.1 }))

@@ -10,7 +10,7 @@ use Rattle.path_select.specs.NodeModel.Uses.{Use, use_from}
 use Rattle.path_select.specs.NodeModel.Paths.{Holdings, Path}
 use Rattle.path_select.specs.NodeModel.Reaching.{Side, below, into, is_up, sides_of}
 
--- those of a side
+-- the routes that lead on along a side
 abbrev pub leads : Holdings → Side → List Path
 leads h s = flat_map (into (is_up h) h s) (below s.chain.services)
 

@@ -46,7 +46,7 @@ abbrev pub moved_by_route : Holdings → ℕ → Delta VpnKey VpnRoute → List 
 moved_by_route h zero d = []
 moved_by_route h (suc place) d = moved_in (peer_path (suc place)) (map_at h.peers place) (moved_delta Vpn Route d)
 
--- its targets before it and after it
+-- the targets of a route before its change and after it
 abbrev pub targets_by_route : Holdings → ℕ → Delta VpnKey VpnRoute → List Target
 targets_by_route h session d = flat_map (λ (p : Path). p.targets) (moved_by_route h session d)
 
@@ -84,6 +84,6 @@ abbrev pub target_at : ℕ → Option InstanceId → List Target
 target_at asn None = []
 target_at asn (Some i) = target_of asn i ∷ []
 
--- its target: of one instance, before it and after it
+-- the target of a publication: of one instance, before its change and after it
 abbrev pub targets_by_publication : Holdings → ℕ → Delta UpKey LabelNo → List Target
 targets_by_publication h session d = target_at h.asn (place_by_publication h session d)

@@ -7,7 +7,7 @@ use Rattle.vpn_tables.specs.declared.tables.Agent.{Agent}
 use Rattle.vpn_tables.specs.declared.sessions.Seat.{Seat}
 use Rattle.vpn_tables.specs.declared.sessions.Seat.TheVariants.{Taken, Free}
 
--- so many peers that told nothing
+-- a number of peers that told nothing
 abbrev pub nothings : ℕ → List (List (VpnKey × VpnRoute))
 nothings zero = []
 nothings (suc n) = [] ∷ nothings n

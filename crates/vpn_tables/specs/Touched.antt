@@ -30,7 +30,7 @@ touched_rows h targets prefix =
     map (λ i. (i, prefix)) (filter (imports_one h targets) (known_instances h.feed))
     ++ flat_map rows_at_use (filter (is_touched h targets) (uses h.feed))
 
--- those that a change of what an agent told may change: of a subscription none
+-- the rows that a change of what an agent told may change: of a subscription none
 abbrev pub rows_by_key : Holdings → List Target → UpKey → List (InstanceId × Block)
 rows_by_key h targets (Up.Publish i prefix) = touched_rows h targets prefix
 rows_by_key h targets (Up.Subscribe i) = []

@@ -71,6 +71,7 @@ impl VpnTables {
         ensures { IfOk result (λ paths. (p : PathOf)
             → Member p paths.items ↔ Member p (paths_at self.now i prefix.now)) }
     {
+        // (for its clause: no held use has more than 15 services)
         self.uses_are_short();
         let mut paths = self.received_at(i, prefix)?;
         self.push_led(&mut paths, i, prefix, true)?;

@@ -54,7 +54,7 @@ impl<'a> Side<'a> {
         self.number
     }
 
-    /// How many services it has, and so the last of its places.
+    /// How many services the use has, which is the number of its last place.
     pub fn services(&self) -> u8
         ensures number { result ≡ self.now.chain.services }
         ensures at_most { result ≤ 15 }
@@ -106,8 +106,8 @@ impl<'a> Side<'a> {
         }
     }
 
-    /// The circuit there that leads towards the end: of the service between the place and the next one nearer, where the
-    /// distance is not 0.
+    /// The circuit in the place at a distance that leads towards the end: that of the service between the place and the
+    /// next one nearer, where the distance is not 0.
     pub fn circuit_at(&self, distance: u8) -> u32
         requires { distance ≤ self.now.chain.services }
         ensures circuit { result ≡ circuit_at self.now distance }

@@ -2,7 +2,7 @@
 ghost use Rattle.std.specs.Prelude.{◌≡◌, ◌==◌, [], Some, map};
 ghost use Rattle.std.specs.List.{cons_option, list_any};
 ghost use Rattle.route_targets.specs.Numbers.{hop_of, target_of};
-ghost use Rattle.path_select.specs.NodeModel.Uses.{hop_imports, imports, network_imports};
+ghost use Rattle.path_select.specs.NodeModel.Uses.{hop_imports, imports};
 
 use crate::chains::Side;
 use crate::tables::VpnTables;
@@ -85,7 +85,7 @@ impl<'a> Imports<'a> {
     }
 }
 
-/// Those of a network, of what it lists.
+/// The imports of a network: the targets of the instances that it lists.
 fn of_network<'a>(asn: u32, listed: &'a [InstanceId]) -> Imports<'a>
     ensures { result ≡ map (target_of asn) listed.now }
 {
@@ -98,7 +98,7 @@ fn of_network<'a>(asn: u32, listed: &'a [InstanceId]) -> Imports<'a>
     }
 }
 
-/// Those of a place, each where it is there.
+/// The imports of a place of a use: its own target, the left network's and the right one's, each where it is given.
 fn of_place<'a>(
     asn: u32,
     own: Option<Target>,
@@ -116,7 +116,7 @@ fn of_place<'a>(
     }
 }
 
-/// Those of a place of a use: none past its last.
+/// The imports of the place of a number of a use: none past its last.
 fn at_place<'a>(asn: u32, side: &Side<'_>, place: u8) -> Imports<'a>
     ensures { result ≡ map (target_of asn) (hop_imports place (Some side.now.chain)) }
 {

@@ -46,7 +46,7 @@ impl VpnTables {
         Ok(())
     }
 
-    /// Those of the use that is held at a key.
+    /// Appends the keys of the use that is held under a key, where it is touched.
     fn key_touched(&self, keys: &mut Keys, key: &LowKey, targets: &[Target]) -> Result<(), NoMemory>
         ensures { OnOk result (keys.new.items ≡ keys.old.items
             ++ each_of (keys_if_touched self.now targets.now) (use_at self.now.feed key.now)) }
@@ -100,7 +100,7 @@ impl VpnTables {
         Ok(())
     }
 
-    /// Those into the next place from a distance, whose circuit is published or not.
+    /// Appends the keys of the routes that lead from a distance into the next place, whose circuit is published or not.
     fn key_into(&self, keys: &mut Keys, side: &Side<'_>, distance: u8) -> Result<(), NoMemory>
         requires within { distance < side.now.chain.services }
         requires short { distance < 15 }
@@ -113,7 +113,8 @@ impl VpnTables {
         }
     }
 
-    /// Those towards the circuit of the next place, which is published.
+    /// Appends the keys of the routes that lead from a distance towards the circuit of the next place, which is
+    /// published.
     fn key_towards(
         &self,
         keys: &mut Keys,
@@ -203,6 +204,7 @@ impl VpnTables {
     pub fn led_keyed(&self, key: &VpnKey) -> Option<Route>
         ensures { option_map path_of result ≡ first_keyed key.now (reoriginated_paths self.now) }
     {
+        // (a read of the tables, for what always holds of them)
         let _ = &self.asn;
         let hop = instance_of(key.rd);
         match self.led_keyed_at(hop, key, true) {

@@ -1,8 +1,6 @@
 //! The held objects of one kind. Keys go by kind, so that each kind is a range of them.
-ghost use Rattle.std.specs.Prelude.{◌≡◌, Bool, true};
+ghost use Rattle.std.specs.Prelude.{◌≡◌};
 ghost use Rattle.std.specs.List.{AllByRecursion, filter};
-ghost use Rattle.ov_types.specs.declared.objects.LowKey.{LowKey as LowKeyOf};
-ghost use Rattle.ov_types.specs.declared.objects.LowValue.{LowValue as LowValueOf};
 ghost use Rattle.path_select.specs.NodeModel.Maps.{objects};
 ghost use Rattle.vpn_tables.specs.Kinds.{IsHeld, is_for_agents, is_network, is_use};
 

@@ -28,7 +28,7 @@ impl VpnTables {
         Ok(routes)
     }
 
-    /// Those of the use that is held at a key.
+    /// Appends the routes that lead on along the use that is held under a key.
     pub(crate) fn lead_use(&self, routes: &mut Vec<Route>, key: &LowKey) -> Result<(), NoMemory>
         ensures { OnOk result (map path_of routes.new.items ≡ map path_of routes.old.items
             ++ flat_map (leads self.now) (sides_of_held (use_at self.now.feed key.now))) }
@@ -59,7 +59,7 @@ impl VpnTables {
         Ok(())
     }
 
-    /// Those from a distance, at which these subnets are up, into the next place.
+    /// Appends the routes that lead the subnets that are up at a distance into the next place.
     fn lead_into(
         &self,
         routes: &mut Vec<Route>,
@@ -81,7 +81,7 @@ impl VpnTables {
         }
     }
 
-    /// Those from a distance towards the circuit of the next place, which is published.
+    /// Appends the routes that lead from a distance towards the circuit of the next place, which is published.
     fn lead_towards(
         &self,
         routes: &mut Vec<Route>,

@@ -3,7 +3,7 @@ ghost use Rattle.std.specs.Prelude.{◌≡◌, ◌==◌, ◌++◌, [], ◌∷◌
 ghost use Rattle.std.specs.List.{filter_map};
 ghost use Rattle.std.specs.FinMap.{entries};
 ghost use Rattle.path_select.specs.NodeModel.Keys.{of_up};
-ghost use Rattle.path_select.specs.NodeModel.Maps.{Map, objects};
+ghost use Rattle.path_select.specs.NodeModel.Maps.{objects};
 ghost use Rattle.path_select.specs.NodeModel.Paths.{own_path, own_paths};
 ghost use Rattle.path_select.specs.NodeModel.Reaching.{below};
 ghost use Rattle.path_select.specs.NodeModel.Tables.{known_instances, network_of};
@@ -33,7 +33,7 @@ impl VpnTables {
         Ok(routes)
     }
 
-    /// Those of an agent.
+    /// Appends the routes of an agent's publications.
     fn push_own(&self, routes: &mut Vec<Route>, agent: &Agent) -> Result<(), NoMemory>
         ensures { OnOk result (map path_of routes.new.items ≡ map path_of routes.old.items
             ++ filter_map (λ e. own_path self.now (agent_of agent.now) e.0 e.1) (entries (agent_of agent.now).map)) }

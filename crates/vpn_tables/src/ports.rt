@@ -90,6 +90,7 @@ pub(crate) fn put_object(
     ensures err { OnErr result (low.new.entries ≡ low.old.entries) }
     ensures counted { AreCounted ports.new (feed_of low.new.entries) }
 {
+    // (for its clause: the objects are fewer than 2^64, so that no count of ports overflows)
     let _held = low.len();
     let site = site_of(&value);
     count_in(ports, site)?;
@@ -112,6 +113,7 @@ pub(crate) fn drop_object(low: &mut Objects, ports: &mut Ports, key: &LowKey)
     ensures dropped { map_of low_order low.new.entries ≡ changed (map_of low_order low.old.entries) (DropOf key.now) }
     ensures counted { AreCounted ports.new (feed_of low.new.entries) }
 {
+    // (for its clause: the objects are fewer than 2^64, so that no count of ports overflows)
     let _held = low.len();
     if let Some(before) = low.remove(key) {
         count_out(ports, site_of(&before));

@@ -139,7 +139,7 @@ pub(crate) fn push_routes(
     Ok(())
 }
 
-/// Appends those that agents publish and that are imported.
+/// Appends the paths that agents publish and that are imported.
 pub(crate) fn push_labels(
     paths: &mut Vec<Path>,
     tables: &VpnTables,

@@ -129,7 +129,7 @@ impl VpnTables {
         }
     }
 
-    /// Those that lead on along the use of the instance, which are all.
+    /// Offers all the routes that lead on along the use of the instance.
     fn offer_along(&self, least: &mut Least, i: InstanceId, number: u16) -> Result<(), NoMemory>
         requires { number ≡ use_of i }
         ensures { OnOk result (least_of least.new ≡ offer_all (least_of least.old)

@@ -1,5 +1,5 @@
 //! What a control node holds.
-ghost use Rattle.std.specs.Prelude.{◌≡◌, Some, true, OnOk, OnErr, IfSome, option_copied};
+ghost use Rattle.std.specs.Prelude.{◌≡◌, true, OnOk, OnErr, IfSome, option_copied};
 ghost use Rattle.node_laws.specs.Quiet.{PublishesNothing};
 ghost use Rattle.ov_sync.specs.Keyed.{PutOf, IsPut};
 ghost use Rattle.path_select.specs.NodeModel.Maps.{object};
@@ -27,9 +27,9 @@ pub struct VpnTables {
     pub(crate) asn: u32,
     pub(crate) low: Objects,
     pub(crate) ports: Ports,
-    /// Of session 1, 2 and so on.
+    /// What peers told, by their sessions: session 1, 2 and so on.
     pub(crate) peers: Vec<SyncIn<VpnKey, VpnRoute>>,
-    /// In the order of their sessions.
+    /// What agents told, in the order of their sessions.
     pub(crate) agents: Vec<Agent>,
     /// Where the routes of peers stand, by prefix.
     pub(crate) routes: Routes,

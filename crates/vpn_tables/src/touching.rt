@@ -52,6 +52,7 @@ impl VpnTables {
     pub fn uses_are_short(&self)
         ensures { AreShort self.now.feed }
     {
+        // (a read of the tables, for what always holds of them)
         let _asn = self.asn;
     }
 
@@ -79,7 +80,7 @@ impl VpnTables {
         self.touched_rows(targets.as_slice(), route_key(delta).prefix)
     }
 
-    /// Those that a change of what an agent told may change: of a subscription none.
+    /// The rows that a change of what an agent told may change; a subscription changes none.
     pub fn touched_by_publication(
         &self,
         session: u16,
@@ -123,7 +124,7 @@ impl VpnTables {
         Ok(())
     }
 
-    /// Those of the use that is held at a key.
+    /// Appends the rows of the use that is held under a key, where it is touched.
     fn push_touched(
         &self,
         rows: &mut Vec<Row>,

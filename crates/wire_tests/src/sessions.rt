@@ -17,7 +17,7 @@ static OPEN_OF_ANOTHER_NODE: &str = "M 001d 01 04 fc00 0000 c0000203 00";
 
 static KEEPALIVE: &str = "M 0013 04";
 
-/// It withdraws 10.1.0.5/32 of the distinguisher 192.0.2.11:1.
+/// The route of 10.1.0.5/32, distinguisher 192.0.2.11:1, is withdrawn.
 static UPDATE: &str = "M 002d 02 0000 0016 800f13 000180 78 800000 0001c000020b0001 0a010005";
 
 /// ORIGIN 3.
