@@ -101,7 +101,7 @@ fn is_of_number(alloc: Global, error: &Error) -> bool {
     }
 }
 
-/// The place behind a number of octets.
+/// The place behind so many octets.
 fn place_behind(octets: &[u8], count: usize) -> TextPlace
     requires { count ≤ length octets.now }
     ensures { IsPlaceIn octets.now result }

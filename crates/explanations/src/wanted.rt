@@ -9,7 +9,7 @@ ghost use Rattle.explanations.specs.Wanted.{listed_member};
 ghost use Rattle.explanations.specs.Wanted.{network_member, node_member, packet_member, policy_member, port_member};
 ghost use Rattle.explanations.specs.Wanted.{rule_member, service_member, topology_member};
 
-/// What is said of a place that the form does not have.
+/// Of a place that the form does not have.
 pub(crate) const NO_PHRASE: &str = "docs/FORMATS.md has it";
 
 const OBJECT: &str = "an object";
@@ -73,8 +73,7 @@ fn is_item(word: &str) -> bool
     word.as_bytes().strip_suffix(b"]").is_some()
 }
 
-/// What is wanted of a member, by the word that stands before it in a path: the list that its object is in, or the
-/// object's kind in an edit.
+/// What is wanted of a member, by the one before it: the list that its object is in, or the object's kind in an edit.
 #[tactic(auto, unfolding(crate::specs::Wanted::member_wanted))]
 fn member_wanted(parent: &str, member: &str) -> &'static str
     ensures { result.now ≡ member_wanted parent.now member.now }
@@ -95,7 +94,7 @@ fn member_wanted(parent: &str, member: &str) -> &'static str
     }
 }
 
-/// What is wanted of a member of an object in a list of the commands.
+/// Of what the lists of the commands have.
 #[tactic(auto, unfolding(crate::specs::Wanted::listed_member))]
 fn listed_member(parent: &str, member: &str) -> &'static str
     ensures { result.now ≡ listed_member parent.now member.now }
@@ -109,7 +108,7 @@ fn listed_member(parent: &str, member: &str) -> &'static str
     }
 }
 
-/// What is wanted of a member of an edit, of a put or of a delete.
+/// Of edits, and of what they put and delete.
 #[tactic(auto, unfolding(crate::specs::Wanted::edited_member))]
 fn edited_member(parent: &str, member: &str) -> &'static str
     ensures { result.now ≡ edited_member parent.now member.now }
@@ -122,7 +121,7 @@ fn edited_member(parent: &str, member: &str) -> &'static str
     }
 }
 
-/// What is wanted of a document, which the empty path leads to, and of its members, whatever the command.
+/// Of a document, which the empty path leads to, and of its members, whatever the command.
 #[tactic(auto, unfolding(crate::specs::Wanted::document_member))]
 fn document_member(member: &str) -> &'static str
     ensures { result.now ≡ document_member member.now }
@@ -135,7 +134,7 @@ fn document_member(member: &str) -> &'static str
     }
 }
 
-/// What is wanted of a member of the topology.
+/// Of the topology.
 #[tactic(auto, unfolding(crate::specs::Wanted::topology_member))]
 fn topology_member(member: &str) -> &'static str
     ensures { result.now ≡ topology_member member.now }
@@ -148,7 +147,7 @@ fn topology_member(member: &str) -> &'static str
     }
 }
 
-/// What is wanted of a member of a control node.
+/// Of a control node.
 #[tactic(auto, unfolding(crate::specs::Wanted::controller_member))]
 fn controller_member(member: &str) -> &'static str
     ensures { result.now ≡ controller_member member.now }
@@ -160,7 +159,7 @@ fn controller_member(member: &str) -> &'static str
     }
 }
 
-/// What is wanted of a member of a compute node.
+/// Of a compute node.
 #[tactic(auto, unfolding(crate::specs::Wanted::node_member))]
 fn node_member(member: &str) -> &'static str
     ensures { result.now ≡ node_member member.now }
@@ -173,7 +172,7 @@ fn node_member(member: &str) -> &'static str
     }
 }
 
-/// What is wanted of a member of the configuration.
+/// Of the configuration.
 #[tactic(auto, unfolding(crate::specs::Wanted::configuration_member))]
 fn configuration_member(member: &str) -> &'static str
     ensures { result.now ≡ configuration_member member.now }
@@ -184,7 +183,7 @@ fn configuration_member(member: &str) -> &'static str
     }
 }
 
-/// What is wanted of a member of a network.
+/// Of a network.
 #[tactic(auto, unfolding(crate::specs::Wanted::network_member))]
 fn network_member(member: &str) -> &'static str
     ensures { result.now ≡ network_member member.now }
@@ -198,7 +197,7 @@ fn network_member(member: &str) -> &'static str
     }
 }
 
-/// What is wanted of a member of a port.
+/// Of a port.
 #[tactic(auto, unfolding(crate::specs::Wanted::port_member))]
 fn port_member(member: &str) -> &'static str
     ensures { result.now ≡ port_member member.now }
@@ -211,7 +210,7 @@ fn port_member(member: &str) -> &'static str
     }
 }
 
-/// What is wanted of a member of a policy.
+/// Of a policy.
 #[tactic(auto, unfolding(crate::specs::Wanted::policy_member))]
 fn policy_member(member: &str) -> &'static str
     ensures { result.now ≡ policy_member member.now }
@@ -224,7 +223,7 @@ fn policy_member(member: &str) -> &'static str
     }
 }
 
-/// What is wanted of a member of a rule.
+/// Of a rule.
 #[tactic(auto, unfolding(crate::specs::Wanted::rule_member))]
 fn rule_member(member: &str) -> &'static str
     ensures { result.now ≡ rule_member member.now }
@@ -243,7 +242,7 @@ fn rule_member(member: &str) -> &'static str
     }
 }
 
-/// What is wanted of a member of a service.
+/// Of a service.
 #[tactic(auto, unfolding(crate::specs::Wanted::service_member))]
 fn service_member(member: &str) -> &'static str
     ensures { result.now ≡ service_member member.now }
@@ -255,7 +254,7 @@ fn service_member(member: &str) -> &'static str
     }
 }
 
-/// What is wanted of a member of a chain.
+/// Of a chain.
 #[tactic(auto, unfolding(crate::specs::Wanted::chain_member))]
 fn chain_member(member: &str) -> &'static str
     ensures { result.now ≡ chain_member member.now }
@@ -267,7 +266,7 @@ fn chain_member(member: &str) -> &'static str
     }
 }
 
-/// What is wanted of a member of a packet.
+/// Of a packet.
 #[tactic(auto, unfolding(crate::specs::Wanted::packet_member))]
 fn packet_member(member: &str) -> &'static str
     ensures { result.now ≡ packet_member member.now }
@@ -283,7 +282,7 @@ fn packet_member(member: &str) -> &'static str
     }
 }
 
-/// What is wanted of a member of what is expected of a packet that is delivered.
+/// Of what is expected of a packet that is delivered.
 #[tactic(auto, unfolding(crate::specs::Wanted::expect_member))]
 fn expect_member(member: &str) -> &'static str
     ensures { result.now ≡ expect_member member.now }
@@ -295,7 +294,7 @@ fn expect_member(member: &str) -> &'static str
     }
 }
 
-/// What is wanted of a member of a group.
+/// Of a group.
 #[tactic(auto, unfolding(crate::specs::Wanted::group_member))]
 fn group_member(member: &str) -> &'static str
     ensures { result.now ≡ group_member member.now }
@@ -307,8 +306,7 @@ fn group_member(member: &str) -> &'static str
     }
 }
 
-/// What is wanted of a member of an event of a schedule, of an entry of a log or of a step. A member that two of these
-/// share is the same in both.
+/// Of an event of a schedule, of an entry of a log and of a step, which have no member in common that is another thing.
 #[tactic(auto, unfolding(crate::specs::Wanted::event_member))]
 fn event_member(member: &str) -> &'static str
     ensures { result.now ≡ event_member member.now }
@@ -327,7 +325,7 @@ fn event_member(member: &str) -> &'static str
     }
 }
 
-/// What is wanted of a member of an edit.
+/// Of an edit.
 #[tactic(auto, unfolding(crate::specs::Wanted::edit_member))]
 fn edit_member(member: &str) -> &'static str
     ensures { result.now ≡ edit_member member.now }
@@ -339,7 +337,7 @@ fn edit_member(member: &str) -> &'static str
     }
 }
 
-/// What is wanted of a member of a put or a delete: one phrase for each kind of object.
+/// Of what is put or deleted, where this is wanted of each kind of object.
 #[tactic(auto, unfolding(crate::specs::Wanted::kind_member))]
 fn kind_member(phrase: &'static str, member: &str) -> &'static str
     ensures { result.now ≡ kind_member phrase.now member.now }
@@ -373,7 +371,7 @@ fn item_wanted(parent: &str, member: &str, word: &str) -> &'static str
     }
 }
 
-/// What is wanted of an item of a list of two names and a number.
+/// Of a list of two names and a number.
 fn item_of_three(word: &str) -> &'static str
     ensures { result.now ≡ item_of_three word.now }
 {
@@ -391,7 +389,7 @@ fn is_third(word: &str) -> bool
     word.as_bytes().strip_suffix(b"[2]").is_some()
 }
 
-/// What is wanted of an item of the controllers of a topology, or of a node.
+/// Of the controllers of a topology, and of a node.
 #[tactic(auto, unfolding(crate::specs::Wanted::controllers_item))]
 fn controllers_item(parent: &str) -> &'static str
     ensures { result.now ≡ controllers_item parent.now }
@@ -403,7 +401,7 @@ fn controllers_item(parent: &str) -> &'static str
     }
 }
 
-/// What is wanted of an item of the policies of a configuration, or of a network.
+/// Of the policies of a configuration, and of a network.
 #[tactic(auto, unfolding(crate::specs::Wanted::policies_item))]
 fn policies_item(parent: &str) -> &'static str
     ensures { result.now ≡ policies_item parent.now }
@@ -415,7 +413,7 @@ fn policies_item(parent: &str) -> &'static str
     }
 }
 
-/// What is wanted of an item of the services of a configuration, or of those that a packet is expected to pass.
+/// Of the services of a configuration, and of those that a packet is expected to pass.
 #[tactic(auto, unfolding(crate::specs::Wanted::services_item))]
 fn services_item(parent: &str) -> &'static str
     ensures { result.now ≡ services_item parent.now }

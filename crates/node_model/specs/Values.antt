@@ -10,13 +10,13 @@ use Rattle.ov_types.specs.contracts.numbers.LabelPartialEq.TheImpl as labels
 use Rattle.ov_types.specs.contracts.vpn.VpnRoutePartialEq.TheImpl as routes
 
 pub data Value : Type 0 where
-  -- the value of a low-level object
+  -- of a low-level object
   Object : LowValue → Value
-  -- the value of a route between control nodes
+  -- of a route between control nodes
   Route : VpnRoute → Value
-  -- the value of a row
+  -- of a row
   Entry : RouteEntry → Value
-  -- the value of a publication. A subscription has label 0, which nothing reads
+  -- of a publication. A subscription has label 0, which nothing reads
   Label : LabelNo → Value
 
 -- whether two values are equal

@@ -60,7 +60,7 @@ impl FailingLink {
         self.queue.front()
     }
 
-    /// How many messages the link keeps.
+    /// How many messages it keeps.
     pub fn len(&self) -> usize
         ensures { result ≡ length self.now.accepted }
     {

@@ -6,11 +6,11 @@ use crate::packet::RuleNo;
 /// where no entry held the packet.
 #[derive(Clone, Copy, Debug, PartialEq, Eq)]
 pub enum Verdict {
-    /// The packet goes on in its network's instance.
+    /// It goes on in its network's instance.
     Pass,
-    /// The packet goes on in this instance.
+    /// It goes on in this instance.
     Enter(InstanceId),
     Denied { rule: Option<RuleNo> },
-    /// No list of the packet's network holds where it goes.
+    /// No list of its network holds where it goes.
     NoDestination,
 }

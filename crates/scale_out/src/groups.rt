@@ -60,7 +60,7 @@ impl Groups {
         Groups::read_at(alloc, &DocumentPlace::Whole, value, config)
     }
 
-    /// The groups that a value at a place of a document writes, whether or not the configuration is valid.
+    /// The same, of a value at a place.
     pub(crate) fn read_at(
         alloc: Global,
         place: &DocumentPlace<'_>,

@@ -19,8 +19,7 @@ database t = numbered (codes "d") t
 abbrev pub management : ℕ → List ℕ
 management t = numbered (codes "m") t
 
--- the three policies of a tenant: between the first two networks, between the next two, and of the management with all
--- of them
+-- its three policies: between the first two networks, between the next two, and of the management with all of them
 abbrev pub front_policy : ℕ → List ℕ
 front_policy t = numbered (codes "pf") t
 
@@ -30,7 +29,7 @@ back_policy t = numbered (codes "pb") t
 abbrev pub management_policy : ℕ → List ℕ
 management_policy t = numbered (codes "pm") t
 
--- the two services of a tenant, a firewall and a load balancer, and the chain of both
+-- its two services, a firewall and a load balancer, and the chain of both
 abbrev pub firewall : ℕ → List ℕ
 firewall t = numbered (codes "f") t
 
