@@ -1,10 +1,11 @@
 #!/usr/bin/env python3
-"""What a change of a peer's route costs a control node's stored tables, and what a row costs.
+"""What a change of a peer's route costs a control node's tables, what a row costs, and what all of them do.
 
-Lays a program that takes times into a copy of `vpn_stored_rows` and the crates below it, has `rt try` build and run it (which
+Lays a program that takes times into a copy of `vpn_tables` and the crates below it, has `rt try` build and run it (which
 proves nothing), and prints its lines: of so many ports on so many networks that all import each other, half of them told by
-an agent and half by a peer, a withdrawal or a new route of the peer (`set_peer_route_counted`, which selects the touched
-rows anew), a row where the rows are stored, and a row where they are not. Times in microseconds.
+an agent and half by a peer, all that is told, one after the other; a withdrawal or a new route of the peer
+(`set_peer_route_counted`, which selects the touched rows anew); a row; and the drop of the peer's session. Times in
+microseconds.
 
 usage: bench/tables.py
 
@@ -17,7 +18,7 @@ import sys
 import tempfile
 
 TOP = os.path.dirname(os.path.dirname(os.path.abspath(__file__)))
-MAIN = """//! Times of stored tables.
+MAIN = """//! Times of tables.
 #![tactic(auto)]
 
 use ov_sync::Delta;
@@ -31,7 +32,7 @@ use std::alloc::Global;
 use std::marker::Brand;
 use std::sync::ledger::{Blank, Ledger};
 use std::time::Instant;
-use vpn_stored_rows::StoredTables;
+use vpn_tables::VpnTables;
 
 const ASN: u32 = 64512;
 
@@ -62,7 +63,7 @@ fn route(alloc: Global, port: u32, networks: u16) -> Result<VpnRoute, NoMemory> 
     Ok(VpnRoute { next_hop: Addr(0xc000_020c), label: Label(16u32.wrapping_add(port)), targets })
 }
 
-fn fill(alloc: Global, tables: &mut StoredTables, ports: u32, networks: u16) -> Result<(), NoMemory> {
+fn fill(alloc: Global, tables: &mut VpnTables, ports: u32, networks: u16) -> Result<(), NoMemory> {
     for number in 1..=networks {
         tables.set_low(Delta::Put(LowKey::Instance(number), network(alloc, networks)?))?;
     }
@@ -80,7 +81,7 @@ fn fill(alloc: Global, tables: &mut StoredTables, ports: u32, networks: u16) -> 
 
 fn change<L: Ledger>(
     alloc: Global,
-    tables: &mut StoredTables,
+    tables: &mut VpnTables,
     ports: u32,
     networks: u16,
     rounds: u32,
@@ -96,7 +97,7 @@ fn change<L: Ledger>(
     Ok(())
 }
 
-fn ask(tables: &StoredTables, ports: u32, networks: u16, rounds: u32) -> Result<u32, NoMemory> {
+fn ask(tables: &VpnTables, ports: u32, networks: u16, rounds: u32) -> Result<u32, NoMemory> {
     let mut sum = 0u32;
     for round in 0..rounds {
         let port = round.wrapping_mul(7) % ports;
@@ -109,24 +110,22 @@ fn ask(tables: &StoredTables, ports: u32, networks: u16, rounds: u32) -> Result<
 
 fn main(rt: HostRuntime) {
     for (ports, networks, rounds) in [(64u32, 8u16, 50u32), (256, 32, 20), (1024, 8, 20), (1024, 128, 4)] {
-        let mut tables = StoredTables::new(rt.alloc(), ASN);
+        let mut tables = VpnTables::new(rt.alloc(), ASN);
+        let start = Instant::now(&rt).expect(&rt, "a clock");
         fill(rt.alloc(), &mut tables, ports, networks).expect(&rt, "memory");
-        let start = Instant::now(&rt).expect(&rt, "a clock");
-        let first = ask(&tables, ports, networks, rounds).expect(&rt, "memory");
-        let plain = start.elapsed(&rt).expect(&rt, "a clock");
-        let start = Instant::now(&rt).expect(&rt, "a clock");
-        tables.refresh().expect(&rt, "memory");
-        let stored = start.elapsed(&rt).expect(&rt, "a clock");
+        let all = start.elapsed(&rt).expect(&rt, "a clock").as_micros();
         let start = Instant::now(&rt).expect(&rt, "a clock");
         change::<Brand>(rt.alloc(), &mut tables, ports, networks, rounds, Blank::new(1)).expect(&rt, "memory");
         let set = start.elapsed(&rt).expect(&rt, "a clock");
         let start = Instant::now(&rt).expect(&rt, "a clock");
-        let second = ask(&tables, ports, networks, rounds).expect(&rt, "memory");
+        let sum = ask(&tables, ports, networks, rounds).expect(&rt, "memory");
         let kept = start.elapsed(&rt).expect(&rt, "a clock");
+        let start = Instant::now(&rt).expect(&rt, "a clock");
+        tables.drop_session(1);
+        let lost = start.elapsed(&rt).expect(&rt, "a clock").as_micros();
         let times = u128::from(rounds);
-        let (set, plain, kept) = (set.as_micros() / (2 * times), plain.as_micros() * 10 / times, kept.as_micros() * 10 / times);
-        let all = stored.as_micros();
-        println!(rt; "ports {ports} networks {networks}: a change {set} us, a row {kept} tenths of us stored and {plain} not, all stored in {all} us; {first} {second}").expect(&rt, "output");
+        let (set, kept) = (set.as_micros() / (2 * times), kept.as_micros() * 10 / times);
+        println!(rt; "ports {ports} networks {networks}: all in {all} us, a change {set} us, a row {kept} tenths of us, a session lost {lost} us; {sum}").expect(&rt, "output");
     }
 }
 """
@@ -152,7 +151,7 @@ def below(lines, name, found):
 def main():
     lines = graph(TOP)
     crates = []
-    below(lines, "vpn_stored_rows", crates)
+    below(lines, "vpn_tables", crates)
     top = tempfile.mkdtemp(prefix="tables-bench-")
     try:
         for name in crates:
