@@ -47,6 +47,7 @@ use vpn_tables::VpnTables;
 const ASN: u32 = 64512;
 
 /// How many ports and networks there are, of which each imports all or itself, and what is done.
+#[derive(Clone, Copy)]
 struct Load {
     ports: u32,
     networks: u16,
