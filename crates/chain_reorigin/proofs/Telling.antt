@@ -17,7 +17,7 @@ use Rattle.vpn_tables.specs.NodeModel.Paths.{Path}
 use Rattle.vpn_tables.specs.NodeModel.Wants.{route_entry}
 use Rattle.vpn_tables.proofs.NodeModel.Directions.{vpn_keeps, vpn_total}
 use Rattle.vpn_tables.proofs.NodeModel.Orders.{key_total}
-use Rattle.vpn_tables.specs.declared.routes.Route.{Route}
+use Rattle.vpn_holdings.specs.declared.routes.Route.{Route}
 use Rattle.vpn_tables.specs.Routes.{path_of}
 use Rattle.vpn_tables.specs.Views.{vpn_order}
 use Rattle.chain_reorigin.specs.Told.{told_path}

@@ -3,7 +3,7 @@ use Rattle.std.specs.Prelude.{[], ◌∷◌}
 use Rattle.ov_sync.specs.Embed.{moved_entry}
 use Rattle.ov_types.specs.declared.vpn.VpnKey.{VpnKey}
 use Rattle.ov_types.specs.declared.vpn.VpnRoute.{VpnRoute}
-use Rattle.vpn_tables.specs.declared.routes.Route.{Route}
+use Rattle.vpn_holdings.specs.declared.routes.Route.{Route}
 
 abbrev pub keyed : Route → VpnKey × Route
 keyed r = (record { rd = r.path.rd; prefix = r.prefix }, r)

@@ -33,8 +33,8 @@ use Rattle.control_change_laws.specs.NodeModel.Wants.{rows_of, slice, slice_entr
 use Rattle.control_change_laws.proofs.NodeModel.Members.{none_some}
 use Rattle.control_change_laws.proofs.NodeModel.Orders.{key_exact, key_total}
 use Rattle.control_change_laws.proofs.NodeModel.Wanted.{subscription_from}
-use Rattle.control_change_laws.specs.VpnTables.Changes.{at_session, with_publication, with_route}
-use Rattle.control_change_laws.specs.VpnTables.Listing.{told_in}
+use Rattle.control_change_laws.specs.VpnHoldings.Changes.{at_session, with_publication, with_route}
+use Rattle.control_change_laws.specs.VpnHoldings.Listing.{told_in}
 use Rattle.control_change_laws.proofs.Filtering.{found_after, found_in_each}
 use Rattle.control_change_laws.proofs.OneKey.{Off, changed_but, changed_none}
 use Rattle.control_change_laws.proofs.Touching.{subscription_rows}

@@ -18,16 +18,16 @@ use Rattle.ov_sync.specs.Embed.{moved_delta}
 use Rattle.ov_sync.specs.Keyed.{changed}
 use Rattle.ov_sync.proofs.KeyedLaws.{changed_apart}
 use Rattle.route_targets.specs.Numbers.{circuit_instance_of, circuit_address_of}
-use Rattle.vpn_tables.specs.NodeModel.Keys.{Key, Low, Vpn, Row, Publish, Subscribe, key_cmp, of_up}
-use Rattle.vpn_tables.specs.NodeModel.Values.{Value, Object, Route, Entry, Label}
-use Rattle.vpn_tables.specs.NodeModel.Maps.{Map, as_label}
-use Rattle.vpn_tables.specs.NodeModel.Paths.{Holdings, Path, Told, own_path}
-use Rattle.vpn_tables.specs.NodeModel.Reaching.{published_by, published_in}
-use Rattle.vpn_tables.proofs.NodeModel.Orders.{key_exact, key_total}
-use Rattle.vpn_tables.specs.Changes.{at_session}
+use Rattle.vpn_holdings.specs.NodeModel.Keys.{Key, Low, Vpn, Row, Publish, Subscribe, key_cmp, of_up}
+use Rattle.vpn_holdings.specs.NodeModel.Values.{Value, Object, Route, Entry, Label}
+use Rattle.vpn_holdings.specs.NodeModel.Maps.{Map, as_label}
+use Rattle.vpn_holdings.specs.NodeModel.Paths.{Holdings, Path, Told, own_path}
+use Rattle.vpn_holdings.specs.NodeModel.Reaching.{published_by, published_in}
+use Rattle.vpn_holdings.proofs.NodeModel.Orders.{key_exact, key_total}
+use Rattle.vpn_holdings.specs.Changes.{at_session}
 use Rattle.control_change_laws.proofs.Moves.{told_otherwise}
 use Rattle.control_change_laws.proofs.Filtering.{filter_append}
-use Rattle.vpn_tables.specs.Moved.{moved_by, place_by, place_in, told_on}
+use Rattle.vpn_holdings.specs.Moved.{moved_by, place_by, place_in, told_on}
 use Rattle.control_change_laws.proofs.OneKey.{Off, changed_off}
 
 -- what an agent told, with another map

@@ -6,12 +6,12 @@ use Rattle.std.proofs.Common.{refl, sym, ◌∙◌, ap, arith}
 use Rattle.ov_types.specs.Prefix.{Block}
 use Rattle.ov_types.specs.declared.numbers.InstanceId.{InstanceId}
 use Rattle.ov_types.specs.declared.targets.Target.{Target}
-use Rattle.vpn_tables.specs.NodeModel.Uses.{Use, uses, hop}
-use Rattle.vpn_tables.specs.NodeModel.Paths.{Holdings}
-use Rattle.vpn_tables.specs.NodeModel.Reaching.{below}
-use Rattle.vpn_tables.specs.NodeModel.Tables.{known_instances}
-use Rattle.vpn_tables.specs.Listing.{hops}
-use Rattle.vpn_tables.specs.Touched.{imports_one, is_touched, rows_at_use, touched, touched_rows, weight}
+use Rattle.vpn_holdings.specs.NodeModel.Uses.{Use, uses, hop}
+use Rattle.vpn_holdings.specs.NodeModel.Paths.{Holdings}
+use Rattle.vpn_holdings.specs.NodeModel.Reaching.{below}
+use Rattle.vpn_holdings.specs.NodeModel.Tables.{known_instances}
+use Rattle.vpn_holdings.specs.Listing.{hops}
+use Rattle.vpn_holdings.specs.Touched.{imports_one, is_touched, rows_at_use, touched, touched_rows, weight}
 
 many : {X Y : Type 0} (f : X → Y) (xs : List X) → length (map f xs) ≡ length xs
 many f [] = refl

@@ -17,22 +17,22 @@ use Rattle.ov_sync.specs.declared.Delta.{Delta}
 use Rattle.ov_sync.specs.declared.Delta.TheVariants.{Put, Drop}
 use Rattle.ov_sync.specs.Keyed.{key_of}
 use Rattle.route_targets.specs.Numbers.{distinguisher_of}
-use Rattle.vpn_tables.specs.NodeModel.Keys.{Key, Low, Vpn, Row, Publish, Subscribe, of_up}
-use Rattle.vpn_tables.specs.NodeModel.Members.{Member}
-use Rattle.vpn_tables.specs.NodeModel.Paths.{Holdings, Path, Told, own_path, peer_path}
-use Rattle.vpn_tables.specs.NodeModel.Reaching.{AreShort, Side, below, circuit_at, hop_at, into, is_up, publisher, sides, sides_of, subnets, towards}
-use Rattle.vpn_tables.specs.NodeModel.Tables.{table}
-use Rattle.vpn_tables.specs.NodeModel.Uses.{is_known, uses}
-use Rattle.vpn_tables.specs.NodeModel.Values.{Value, Object, Route, Entry, Label}
-use Rattle.vpn_tables.specs.NodeModel.Wants.{wanted_by_peers}
-use Rattle.vpn_tables.proofs.NodeModel.Members.{from_flat_map, in_either, in_filter, in_flat_map, in_map, member_when}
-use Rattle.vpn_tables.proofs.NodeModel.Objects.{side_use}
-use Rattle.vpn_tables.specs.Changes.{with_publication, with_route}
-use Rattle.vpn_tables.specs.Leading.{leads}
-use Rattle.vpn_tables.specs.Moved.{map_at, moved_by, moved_by_publication, moved_by_route, targets_by_publication, targets_by_route, told_as, told_on}
-use Rattle.vpn_tables.specs.Touched.{is_touched, rows_by_key}
+use Rattle.vpn_holdings.specs.NodeModel.Keys.{Key, Low, Vpn, Row, Publish, Subscribe, of_up}
+use Rattle.vpn_holdings.specs.NodeModel.Members.{Member}
+use Rattle.vpn_holdings.specs.NodeModel.Paths.{Holdings, Path, Told, own_path, peer_path}
+use Rattle.vpn_holdings.specs.NodeModel.Reaching.{AreShort, Side, below, circuit_at, hop_at, into, is_up, publisher, sides, sides_of, subnets, towards}
+use Rattle.vpn_holdings.specs.NodeModel.Tables.{table}
+use Rattle.vpn_holdings.specs.NodeModel.Uses.{is_known, uses}
+use Rattle.vpn_holdings.specs.NodeModel.Values.{Value, Object, Route, Entry, Label}
+use Rattle.vpn_holdings.specs.NodeModel.Wants.{wanted_by_peers}
+use Rattle.vpn_holdings.proofs.NodeModel.Members.{from_flat_map, in_either, in_filter, in_flat_map, in_map, member_when}
+use Rattle.vpn_holdings.proofs.NodeModel.Objects.{side_use}
+use Rattle.vpn_holdings.specs.Changes.{with_publication, with_route}
+use Rattle.vpn_holdings.specs.Leading.{leads}
+use Rattle.vpn_holdings.specs.Moved.{map_at, moved_by, moved_by_publication, moved_by_route, targets_by_publication, targets_by_route, told_as, told_on}
+use Rattle.vpn_holdings.specs.Touched.{is_touched, rows_by_key}
 use Rattle.control_change_laws.specs.TouchedKeys.{IsTouchedKey}
-use Rattle.vpn_tables.specs.TouchedKeys.{always, key_published, keys_along, keys_led, may_lead, path_key, published_key}
+use Rattle.vpn_holdings.specs.TouchedKeys.{always, key_published, keys_along, keys_led, may_lead, path_key, published_key}
 use Rattle.control_change_laws.proofs.Touching as touching
 use Rattle.control_change_laws.proofs.Touching.{publication_rows, subscription_rows}
 use Rattle.control_change_laws.proofs.Wanted.{at_row}

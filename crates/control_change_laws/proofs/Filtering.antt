@@ -6,7 +6,7 @@ use Rattle.std.specs.List.{filter, flat_map, AllByRecursion}
 use Rattle.std.specs.Ordering.{eq_by_cmp}
 use Rattle.std.specs.FinMap.{find}
 use Rattle.std.proofs.Common.{refl, sym, ◌∙◌, ap, inl, inr}
-use Rattle.vpn_tables.specs.NodeModel.Members.{Member}
+use Rattle.vpn_holdings.specs.NodeModel.Members.{Member}
 
 pub false_from : (b c : Bool) → (c ≡ true → b ≡ true) → b ≡ false → c ≡ false
 false_from b true f e = sym (f refl) ∙ e

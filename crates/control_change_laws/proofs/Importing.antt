@@ -18,17 +18,17 @@ use Rattle.ov_sync.specs.declared.Delta.{Delta}
 use Rattle.ov_sync.specs.declared.Delta.TheVariants.{Put, Drop}
 use Rattle.ov_sync.specs.Keyed.{key_of}
 use Rattle.route_targets.specs.Numbers.{target_of}
-use Rattle.vpn_tables.proofs.NodeModel.Members.{any_in, from_any, from_filter, from_flat_map, from_map, in_either, in_filter, in_flat_map, in_left, in_map, in_right}
-use Rattle.vpn_tables.specs.NodeModel.Keys.{Vpn, Publish}
-use Rattle.vpn_tables.specs.NodeModel.Values.{Value, Object, Route, Entry, Label}
-use Rattle.vpn_tables.specs.NodeModel.Maps.{Map}
-use Rattle.vpn_tables.specs.NodeModel.Members.{Member}
-use Rattle.vpn_tables.specs.NodeModel.Uses.{Use, imports, uses}
-use Rattle.vpn_tables.specs.NodeModel.Paths.{Holdings, Path, Told, peer_path}
-use Rattle.vpn_tables.specs.NodeModel.Tables.{known_instances}
-use Rattle.vpn_tables.specs.Listing.{hops}
-use Rattle.vpn_tables.specs.Moved.{place_by, place_in, target_at, targets_by_publication, targets_by_route, told_as, told_on}
-use Rattle.vpn_tables.specs.Touched.{imports_one, is_touched, rows_at_use, touched, touched_rows}
+use Rattle.vpn_holdings.proofs.NodeModel.Members.{any_in, from_any, from_filter, from_flat_map, from_map, in_either, in_filter, in_flat_map, in_left, in_map, in_right}
+use Rattle.vpn_holdings.specs.NodeModel.Keys.{Vpn, Publish}
+use Rattle.vpn_holdings.specs.NodeModel.Values.{Value, Object, Route, Entry, Label}
+use Rattle.vpn_holdings.specs.NodeModel.Maps.{Map}
+use Rattle.vpn_holdings.specs.NodeModel.Members.{Member}
+use Rattle.vpn_holdings.specs.NodeModel.Uses.{Use, imports, uses}
+use Rattle.vpn_holdings.specs.NodeModel.Paths.{Holdings, Path, Told, peer_path}
+use Rattle.vpn_holdings.specs.NodeModel.Tables.{known_instances}
+use Rattle.vpn_holdings.specs.Listing.{hops}
+use Rattle.vpn_holdings.specs.Moved.{place_by, place_in, target_at, targets_by_publication, targets_by_route, told_as, told_on}
+use Rattle.vpn_holdings.specs.Touched.{imports_one, is_touched, rows_at_use, touched, touched_rows}
 use Rattle.control_change_laws.specs.Importing.{ImportsOneOf, IsAlongUse, IsAtPrefix, IsOfPublication, IsOfRoute, PutsOrDrops, held_of, route_put}
 use Rattle.control_change_laws.proofs.Counted.{counted}
 use Rattle.control_change_laws.proofs.Touching.{no_rows}

@@ -11,17 +11,17 @@ use Rattle.ov_types.specs.declared.numbers.InstanceId.{InstanceId}
 use Rattle.ov_types.specs.declared.objects.LowKey.{LowKey}
 use Rattle.ov_types.specs.declared.objects.LowKey.TheVariants as key
 use Rattle.ov_types.specs.declared.objects.LowValue.{LowValue}
-use Rattle.vpn_tables.specs.NodeModel.Members.{Member}
-use Rattle.vpn_tables.specs.NodeModel.Keys.{Low}
-use Rattle.vpn_tables.specs.NodeModel.Values.{Value, Object, Route, Entry, Label}
-use Rattle.vpn_tables.specs.NodeModel.Maps.{Map, as_object, object, objects}
-use Rattle.vpn_tables.specs.NodeModel.Uses.{Use, uses, hop, is_hop, use_of, place_of, held_use, is_place, is_known}
-use Rattle.vpn_tables.specs.NodeModel.Reaching.{below}
-use Rattle.vpn_tables.specs.NodeModel.Tables.{known_instances, network_of}
-use Rattle.vpn_tables.proofs.NodeModel.Members.{in_filter_map, in_flat_map, in_left, in_map, in_right, none_some}
-use Rattle.vpn_tables.proofs.NodeModel.Objects.{in_objects}
-use Rattle.vpn_tables.proofs.NodeModel.Places.{use_found}
-use Rattle.vpn_tables.proofs.NodeModel.Routes.{in_below}
+use Rattle.vpn_holdings.specs.NodeModel.Members.{Member}
+use Rattle.vpn_holdings.specs.NodeModel.Keys.{Low}
+use Rattle.vpn_holdings.specs.NodeModel.Values.{Value, Object, Route, Entry, Label}
+use Rattle.vpn_holdings.specs.NodeModel.Maps.{Map, as_object, object, objects}
+use Rattle.vpn_holdings.specs.NodeModel.Uses.{Use, uses, hop, is_hop, use_of, place_of, held_use, is_place, is_known}
+use Rattle.vpn_holdings.specs.NodeModel.Reaching.{below}
+use Rattle.vpn_holdings.specs.NodeModel.Tables.{known_instances, network_of}
+use Rattle.vpn_holdings.proofs.NodeModel.Members.{in_filter_map, in_flat_map, in_left, in_map, in_right, none_some}
+use Rattle.vpn_holdings.proofs.NodeModel.Objects.{in_objects}
+use Rattle.vpn_holdings.proofs.NodeModel.Places.{use_found}
+use Rattle.vpn_holdings.proofs.NodeModel.Routes.{in_below}
 
 pub in_places : (k j : ℕ) → j ≤ k → Member j (below k ++ k ∷ [])
 in_places k j h =

@@ -11,18 +11,18 @@ use Rattle.ov_types.specs.declared.numbers.Label.{Label as LabelNo}
 use Rattle.ov_types.specs.declared.prefix.Addr.{Addr}
 use Rattle.ov_types.specs.declared.targets.Target.{Target}
 use Rattle.route_targets.specs.Numbers.{target_of}
-use Rattle.vpn_tables.specs.NodeModel.Members.{Member}
-use Rattle.vpn_tables.specs.NodeModel.Uses.{hop, imports, is_known}
-use Rattle.vpn_tables.specs.NodeModel.Paths.{Holdings, Path, has_target}
-use Rattle.vpn_tables.specs.NodeModel.Reaching.{Side, subnets, hop_at, circuit_at, below, publisher, towards, into, is_up, AreShort}
-use Rattle.vpn_tables.specs.NodeModel.Tables.{known_instances}
-use Rattle.vpn_tables.proofs.NodeModel.Members.{from_flat_map, in_filter, in_flat_map, in_left, in_map, in_right, member_when}
-use Rattle.vpn_tables.proofs.NodeModel.Objects.{imports_nothing}
-use Rattle.vpn_tables.proofs.NodeModel.Routes.{from_below}
-use Rattle.vpn_tables.proofs.NodeModel.Unknown.{place_at, place_at-within, target_from}
-use Rattle.vpn_tables.specs.Listing.{hops}
-use Rattle.vpn_tables.specs.Touched.{imports_one, rows_at_use}
-use Rattle.vpn_tables.specs.Leading.{leads}
+use Rattle.vpn_holdings.specs.NodeModel.Members.{Member}
+use Rattle.vpn_holdings.specs.NodeModel.Uses.{hop, imports, is_known}
+use Rattle.vpn_holdings.specs.NodeModel.Paths.{Holdings, Path, has_target}
+use Rattle.vpn_holdings.specs.NodeModel.Reaching.{Side, subnets, hop_at, circuit_at, below, publisher, towards, into, is_up, AreShort}
+use Rattle.vpn_holdings.specs.NodeModel.Tables.{known_instances}
+use Rattle.vpn_holdings.proofs.NodeModel.Members.{from_flat_map, in_filter, in_flat_map, in_left, in_map, in_right, member_when}
+use Rattle.vpn_holdings.proofs.NodeModel.Objects.{imports_nothing}
+use Rattle.vpn_holdings.proofs.NodeModel.Routes.{from_below}
+use Rattle.vpn_holdings.proofs.NodeModel.Unknown.{place_at, place_at-within, target_from}
+use Rattle.vpn_holdings.specs.Listing.{hops}
+use Rattle.vpn_holdings.specs.Touched.{imports_one, rows_at_use}
+use Rattle.vpn_holdings.specs.Leading.{leads}
 use Rattle.control_change_laws.proofs.Known.{in_places, known_in}
 
 -- a route towards a circuit is of this prefix and this instance

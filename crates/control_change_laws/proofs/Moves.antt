@@ -6,10 +6,10 @@ use Rattle.std.specs.List.{filter, AllByRecursion}
 use Rattle.ov_types.specs.declared.numbers.InstanceId.{InstanceId}
 use Rattle.ov_types.specs.declared.targets.Target.{Target}
 use Rattle.route_targets.specs.Numbers.{target_of, circuit_instance_of}
-use Rattle.vpn_tables.specs.NodeModel.Members.{Member}
-use Rattle.vpn_tables.specs.NodeModel.Maps.{Map}
-use Rattle.vpn_tables.specs.NodeModel.Paths.{Holdings, Told, Path, own_paths, peer_paths}
-use Rattle.vpn_tables.specs.NodeModel.Reaching.{publisher}
+use Rattle.vpn_holdings.specs.NodeModel.Members.{Member}
+use Rattle.vpn_holdings.specs.NodeModel.Maps.{Map}
+use Rattle.vpn_holdings.specs.NodeModel.Paths.{Holdings, Told, Path, own_paths, peer_paths}
+use Rattle.vpn_holdings.specs.NodeModel.Reaching.{publisher}
 
 -- what a control node holds, with what its sessions but the feed told otherwise
 abbrev pub told_otherwise : Holdings → List Map → List Told → Holdings

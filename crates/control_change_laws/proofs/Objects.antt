@@ -20,17 +20,17 @@ use Rattle.ov_sync.specs.Embed.{moved_delta}
 use Rattle.ov_sync.specs.Keyed.{changed, key_of}
 use Rattle.ov_sync.proofs.KeyedLaws.{changed_apart}
 use Rattle.route_targets.specs.Numbers.{distinguisher_of, target_of}
-use Rattle.vpn_tables.specs.NodeModel.Keys.{Key, Low, Vpn, Row, Publish, Subscribe}
-use Rattle.vpn_tables.specs.NodeModel.Values.{Value, Object, Route, Entry, Label}
-use Rattle.vpn_tables.specs.NodeModel.Maps.{Map, as_object, low_entry, object}
-use Rattle.vpn_tables.specs.NodeModel.Uses.{Use, as_use, held_use, hop_imports, imports, is_hop, is_known, is_place, network_imports, place_of, use_from, use_of, uses}
-use Rattle.vpn_tables.specs.NodeModel.Paths.{Holdings, Path, Told, has_target, own_path, own_paths, peer_paths, received}
-use Rattle.vpn_tables.specs.NodeModel.Reaching.{Side, below, circuit_at, hop_at, into, is_up, publisher, reoriginated_paths, sides, sides_of, subnets, towards}
-use Rattle.vpn_tables.specs.NodeModel.Tables.{selected, table}
-use Rattle.vpn_tables.specs.NodeModel.Wants.{route_entry, wanted_by_peers}
-use Rattle.vpn_tables.proofs.NodeModel.Objects.{is_hop-hop}
-use Rattle.vpn_tables.proofs.NodeModel.Orders.{key_exact, key_total}
-use Rattle.vpn_tables.specs.Changes.{with_low}
+use Rattle.vpn_holdings.specs.NodeModel.Keys.{Key, Low, Vpn, Row, Publish, Subscribe}
+use Rattle.vpn_holdings.specs.NodeModel.Values.{Value, Object, Route, Entry, Label}
+use Rattle.vpn_holdings.specs.NodeModel.Maps.{Map, as_object, low_entry, object}
+use Rattle.vpn_holdings.specs.NodeModel.Uses.{Use, as_use, held_use, hop_imports, imports, is_hop, is_known, is_place, network_imports, place_of, use_from, use_of, uses}
+use Rattle.vpn_holdings.specs.NodeModel.Paths.{Holdings, Path, Told, has_target, own_path, own_paths, peer_paths, received}
+use Rattle.vpn_holdings.specs.NodeModel.Reaching.{Side, below, circuit_at, hop_at, into, is_up, publisher, reoriginated_paths, sides, sides_of, subnets, towards}
+use Rattle.vpn_holdings.specs.NodeModel.Tables.{selected, table}
+use Rattle.vpn_holdings.specs.NodeModel.Wants.{route_entry, wanted_by_peers}
+use Rattle.vpn_holdings.proofs.NodeModel.Objects.{is_hop-hop}
+use Rattle.vpn_holdings.proofs.NodeModel.Orders.{key_exact, key_total}
+use Rattle.vpn_holdings.specs.Changes.{with_low}
 use Rattle.control_change_laws.proofs.OneKey.{changed_none}
 
 module _ (h : Holdings) (feed : Map) where

@@ -12,14 +12,14 @@ use Rattle.std.proofs.Common.{refl, sym, ◌∙◌, ap, subst, inl, inr}
 use Rattle.ov_sync.specs.declared.Delta.TheVariants.{Put, Drop}
 use Rattle.ov_sync.specs.Keyed.{changed, key_of}
 use Rattle.ov_sync.proofs.Ascending.{entries-remove, three, without}
-use Rattle.vpn_tables.specs.NodeModel.Members.{Member}
-use Rattle.vpn_tables.specs.NodeModel.Keys.{Key, key_cmp}
-use Rattle.vpn_tables.specs.NodeModel.Values.{Value}
-use Rattle.vpn_tables.specs.NodeModel.Maps.{Change, Map}
-use Rattle.vpn_tables.specs.NodeModel.Paths.{Path}
-use Rattle.vpn_tables.proofs.NodeModel.Members.{get_member}
-use Rattle.vpn_tables.proofs.NodeModel.Orders.{key_exact, key_total}
-use Rattle.vpn_tables.specs.Moved.{moved_in, told_as}
+use Rattle.vpn_holdings.specs.NodeModel.Members.{Member}
+use Rattle.vpn_holdings.specs.NodeModel.Keys.{Key, key_cmp}
+use Rattle.vpn_holdings.specs.NodeModel.Values.{Value}
+use Rattle.vpn_holdings.specs.NodeModel.Maps.{Change, Map}
+use Rattle.vpn_holdings.specs.NodeModel.Paths.{Path}
+use Rattle.vpn_holdings.proofs.NodeModel.Members.{get_member}
+use Rattle.vpn_holdings.proofs.NodeModel.Orders.{key_exact, key_total}
+use Rattle.vpn_holdings.specs.Moved.{moved_in, told_as}
 
 -- nothing of these passes
 abbrev pub Off : {Y : Type 0} → (Y → Bool) → List Y → Type 0

@@ -5,13 +5,13 @@ use Rattle.std.specs.FinMap.{empty, entries}
 use Rattle.std.proofs.Common.{refl, sym, ◌∙◌, ap, subst, arith}
 use Rattle.ov_sync.specs.Keyed.{changed}
 use Rattle.ov_sync.proofs.Ascending.{entries-empty}
-use Rattle.vpn_tables.specs.NodeModel.Keys.{key_cmp}
-use Rattle.vpn_tables.specs.NodeModel.Values.{Value}
-use Rattle.vpn_tables.specs.NodeModel.Maps.{Change, Map}
-use Rattle.vpn_tables.specs.NodeModel.Paths.{Path, peer_path}
-use Rattle.vpn_tables.specs.Changes.{changed_at}
+use Rattle.vpn_holdings.specs.NodeModel.Keys.{key_cmp}
+use Rattle.vpn_holdings.specs.NodeModel.Values.{Value}
+use Rattle.vpn_holdings.specs.NodeModel.Maps.{Change, Map}
+use Rattle.vpn_holdings.specs.NodeModel.Paths.{Path, peer_path}
+use Rattle.vpn_holdings.specs.Changes.{changed_at}
 use Rattle.control_change_laws.proofs.Filtering.{filter_append}
-use Rattle.vpn_tables.specs.Moved.{map_at, moved_in}
+use Rattle.vpn_holdings.specs.Moved.{map_at, moved_in}
 use Rattle.control_change_laws.proofs.OneKey.{Off, changed_off, paths}
 
 module _ (test : Path → Bool) where

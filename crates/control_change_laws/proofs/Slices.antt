@@ -29,7 +29,7 @@ use Rattle.control_change_laws.proofs.NodeModel.Members.{none_some}
 use Rattle.control_change_laws.proofs.NodeModel.Objects.{object_of}
 use Rattle.control_change_laws.proofs.NodeModel.Orders.{key_exact, key_total}
 use Rattle.control_change_laws.proofs.NodeModel.Wanted.{slice_is, subscription_from, wanted_object}
-use Rattle.control_change_laws.specs.VpnTables.Changes.{with_low}
+use Rattle.control_change_laws.specs.VpnHoldings.Changes.{with_low}
 use Rattle.control_change_laws.proofs.Filtering.{filter_twice, found_among, found_in_each}
 use Rattle.control_change_laws.proofs.Objects.{object_stays, tables_stay}
 use Rattle.control_change_laws.proofs.Wanted.{rows_of_one}

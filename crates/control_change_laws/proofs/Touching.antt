@@ -19,24 +19,24 @@ use Rattle.ov_sync.specs.Embed.{moved_delta}
 use Rattle.ov_sync.specs.Keyed.{key_of}
 use Rattle.ov_types.specs.declared.targets.Target.{Target}
 use Rattle.route_targets.specs.Numbers.{target_of}
-use Rattle.vpn_tables.proofs.NodeModel.Members.{in_either, in_flat_map}
-use Rattle.vpn_tables.specs.NodeModel.Keys.{Key, Vpn, Row, Publish, Subscribe, of_up}
-use Rattle.vpn_tables.specs.NodeModel.Values.{Value, Object, Route, Entry, Label}
-use Rattle.vpn_tables.specs.NodeModel.Members.{Member}
-use Rattle.vpn_tables.specs.NodeModel.Uses.{is_known, uses}
-use Rattle.vpn_tables.specs.NodeModel.Paths.{Holdings, Path, Told, own_path, peer_path}
-use Rattle.vpn_tables.specs.NodeModel.Reaching.{AreShort}
-use Rattle.vpn_tables.specs.NodeModel.Tables.{known_instances, table}
-use Rattle.vpn_tables.specs.NodeModel.Wants.{wanted_by_agent, wanted_by_peers}
-use Rattle.vpn_tables.specs.Changes.{with_publication, with_route}
+use Rattle.vpn_holdings.proofs.NodeModel.Members.{in_either, in_flat_map}
+use Rattle.vpn_holdings.specs.NodeModel.Keys.{Key, Vpn, Row, Publish, Subscribe, of_up}
+use Rattle.vpn_holdings.specs.NodeModel.Values.{Value, Object, Route, Entry, Label}
+use Rattle.vpn_holdings.specs.NodeModel.Members.{Member}
+use Rattle.vpn_holdings.specs.NodeModel.Uses.{is_known, uses}
+use Rattle.vpn_holdings.specs.NodeModel.Paths.{Holdings, Path, Told, own_path, peer_path}
+use Rattle.vpn_holdings.specs.NodeModel.Reaching.{AreShort}
+use Rattle.vpn_holdings.specs.NodeModel.Tables.{known_instances, table}
+use Rattle.vpn_holdings.specs.NodeModel.Wants.{wanted_by_agent, wanted_by_peers}
+use Rattle.vpn_holdings.specs.Changes.{with_publication, with_route}
 use Rattle.control_change_laws.proofs.Moves.{Covers, Moves}
 use Rattle.control_change_laws.specs.TouchedKeys.{IsTouchedKey}
-use Rattle.vpn_tables.specs.Listing.{hops}
-use Rattle.vpn_tables.specs.Touched.{imports_one, is_touched, rows_at_use, touched, touched_rows}
+use Rattle.vpn_holdings.specs.Listing.{hops}
+use Rattle.vpn_holdings.specs.Touched.{imports_one, is_touched, rows_at_use, touched, touched_rows}
 use Rattle.control_change_laws.proofs.Counted.{counted}
 use Rattle.control_change_laws.proofs.Filtering.{filter_none}
 use Rattle.control_change_laws.proofs.Wanted.{agents_same, at_row, peers_same, row_same}
-use Rattle.vpn_tables.specs.Moved.{moved_by, moved_by_publication, moved_by_route, place_by, place_by_publication, place_in, target_at, targets_by_publication, targets_by_route, told_as, told_on}
+use Rattle.vpn_holdings.specs.Moved.{moved_by, moved_by_publication, moved_by_route, place_by, place_by_publication, place_in, target_at, targets_by_publication, targets_by_route, told_as, told_on}
 use Rattle.control_change_laws.proofs.Peers.{peers_off}
 use Rattle.control_change_laws.proofs.Agents.{agents_off, published_off}
 

@@ -10,19 +10,19 @@ use Rattle.ov_types.specs.declared.numbers.Label.{Label as LabelNo}
 use Rattle.ov_types.specs.declared.prefix.Addr.{Addr}
 use Rattle.ov_types.specs.declared.targets.Target.{Target}
 use Rattle.route_targets.specs.Numbers.{target_of, circuit_instance_of, left_circuit_of, right_circuit_of}
-use Rattle.vpn_tables.specs.NodeModel.Members.{Member}
-use Rattle.vpn_tables.specs.NodeModel.Maps.{Map}
-use Rattle.vpn_tables.specs.NodeModel.Uses.{hop, imports}
-use Rattle.vpn_tables.specs.NodeModel.Paths.{Holdings, Told, Path, has_target, own_paths, peer_paths, received}
-use Rattle.vpn_tables.specs.NodeModel.Reaching.{Side, sides, subnets, hop_at, circuit_at, below, publisher, has_path_within, towards, is_up, into, reoriginated_paths, AreShort}
-use Rattle.vpn_tables.proofs.NodeModel.Members.{any_in, from_any, in_map}
-use Rattle.vpn_tables.proofs.NodeModel.Objects.{imports_hop, side_use}
-use Rattle.vpn_tables.proofs.NodeModel.Routes.{from_below}
-use Rattle.vpn_tables.proofs.NodeModel.Unknown.{le_trans, place_at, place_at-within}
-use Rattle.vpn_tables.specs.Listing.{hops}
-use Rattle.vpn_tables.specs.Touched.{imports_one, is_touched}
+use Rattle.vpn_holdings.specs.NodeModel.Members.{Member}
+use Rattle.vpn_holdings.specs.NodeModel.Maps.{Map}
+use Rattle.vpn_holdings.specs.NodeModel.Uses.{hop, imports}
+use Rattle.vpn_holdings.specs.NodeModel.Paths.{Holdings, Told, Path, has_target, own_paths, peer_paths, received}
+use Rattle.vpn_holdings.specs.NodeModel.Reaching.{Side, sides, subnets, hop_at, circuit_at, below, publisher, has_path_within, towards, is_up, into, reoriginated_paths, AreShort}
+use Rattle.vpn_holdings.proofs.NodeModel.Members.{any_in, from_any, in_map}
+use Rattle.vpn_holdings.proofs.NodeModel.Objects.{imports_hop, side_use}
+use Rattle.vpn_holdings.proofs.NodeModel.Routes.{from_below}
+use Rattle.vpn_holdings.proofs.NodeModel.Unknown.{le_trans, place_at, place_at-within}
+use Rattle.vpn_holdings.specs.Listing.{hops}
+use Rattle.vpn_holdings.specs.Touched.{imports_one, is_touched}
 use Rattle.control_change_laws.proofs.Moves.{Covers, Moves, told_otherwise}
-use Rattle.vpn_tables.specs.Leading.{leads}
+use Rattle.vpn_holdings.specs.Leading.{leads}
 use Rattle.control_change_laws.proofs.Known.{in_places}
 use Rattle.control_change_laws.proofs.Filtering.{all_from, false_from, filter_append, filter_flat_map, filter_none, flat_map_same}
 
@@ -87,7 +87,7 @@ module _ (h : Holdings) (peers : List Map) (agents : List Told) (moved : List Pa
     within_same : (d : ℕ) (subnet : Block) → d ≤ s.chain.services → has_path_within h (hop_at s d) subnet ≡ has_path_within later (hop_at s d) subnet
     within_same d subnet w = ap (list_any (λ p. is_inside p.prefix subnet)) (received_same (hop_at s d) (untouched d w))
 
-    up_same : (d : ℕ) (subnet : Block) → d ≤ s.chain.services → is_up h s subnet d ≡ is_up later s subnet d
+    pub up_same : (d : ℕ) (subnet : Block) → d ≤ s.chain.services → is_up h s subnet d ≡ is_up later s subnet d
     up_same zero subnet w = within_same zero subnet w
     up_same (suc d) subnet w = λ i. within_same (suc d) subnet w i || (is_some (published_same (suc d) w i) && up_same d subnet (before d s.chain.services w) i)
       where

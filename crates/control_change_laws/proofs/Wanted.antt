@@ -12,21 +12,21 @@ use Rattle.ov_types.specs.Prefix.{Block, block_cmp}
 use Rattle.ov_types.specs.declared.numbers.InstanceId.{InstanceId}
 use Rattle.ov_types.specs.declared.targets.Target.{Target}
 use Rattle.route_targets.specs.Numbers.{target_of}
-use Rattle.vpn_tables.specs.NodeModel.Members.{Member}
-use Rattle.vpn_tables.specs.NodeModel.Keys.{Key, Low, Vpn, Row, Publish, Subscribe, key_cmp}
-use Rattle.vpn_tables.specs.NodeModel.Values.{Value, Entry}
-use Rattle.vpn_tables.specs.NodeModel.Maps.{Map}
-use Rattle.vpn_tables.specs.NodeModel.Uses.{uses, imports}
-use Rattle.vpn_tables.specs.NodeModel.Paths.{Holdings, Told, Path, has_target, own_paths, peer_paths, received}
-use Rattle.vpn_tables.specs.NodeModel.Reaching.{Side, sides, reoriginated_paths, AreShort}
-use Rattle.vpn_tables.specs.NodeModel.Tables.{known_instances, of_prefix, paths_of, same_prefix, table}
-use Rattle.vpn_tables.specs.NodeModel.Wants.{route_entry, rows_of, slice, slice_entry, subscriptions, wanted_by_agent, wanted_by_peers}
-use Rattle.vpn_tables.proofs.NodeModel.Members.{in_filter, in_flat_map, in_left, in_map, in_right, from_map, iff_same}
-use Rattle.vpn_tables.proofs.NodeModel.Orders.{key_exact, key_total, prefix_exact, prefix_same, prefix_total}
-use Rattle.vpn_tables.proofs.NodeModel.Objects.{side_use}
-use Rattle.vpn_tables.specs.Touched.{imports_one, is_touched, rows_at_use, touched_rows}
+use Rattle.vpn_holdings.specs.NodeModel.Members.{Member}
+use Rattle.vpn_holdings.specs.NodeModel.Keys.{Key, Low, Vpn, Row, Publish, Subscribe, key_cmp}
+use Rattle.vpn_holdings.specs.NodeModel.Values.{Value, Entry}
+use Rattle.vpn_holdings.specs.NodeModel.Maps.{Map}
+use Rattle.vpn_holdings.specs.NodeModel.Uses.{uses, imports}
+use Rattle.vpn_holdings.specs.NodeModel.Paths.{Holdings, Told, Path, has_target, own_paths, peer_paths, received}
+use Rattle.vpn_holdings.specs.NodeModel.Reaching.{Side, sides, reoriginated_paths, AreShort}
+use Rattle.vpn_holdings.specs.NodeModel.Tables.{known_instances, of_prefix, paths_of, same_prefix, table}
+use Rattle.vpn_holdings.specs.NodeModel.Wants.{route_entry, rows_of, slice, slice_entry, subscriptions, wanted_by_agent, wanted_by_peers}
+use Rattle.vpn_holdings.proofs.NodeModel.Members.{in_filter, in_flat_map, in_left, in_map, in_right, from_map, iff_same}
+use Rattle.vpn_holdings.proofs.NodeModel.Orders.{key_exact, key_total, prefix_exact, prefix_same, prefix_total}
+use Rattle.vpn_holdings.proofs.NodeModel.Objects.{side_use}
+use Rattle.vpn_holdings.specs.Touched.{imports_one, is_touched, rows_at_use, touched_rows}
 use Rattle.control_change_laws.proofs.Moves.{Covers, Moves, told_otherwise}
-use Rattle.vpn_tables.specs.Leading.{leads}
+use Rattle.vpn_holdings.specs.Leading.{leads}
 use Rattle.control_change_laws.specs.TouchedKeys.{IsTouchedKey}
 use Rattle.control_change_laws.proofs.Filtering.{all_from, filter_append, filter_twice, found_after, found_among, found_in_each, found_nowhere}
 use Rattle.control_change_laws.proofs.Rows.{same_row}

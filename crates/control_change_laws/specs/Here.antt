@@ -16,7 +16,7 @@ use Rattle.control_change_laws.specs.NodeModel.Maps.{Map, object}
 use Rattle.control_change_laws.specs.NodeModel.Paths.{Holdings, Path}
 use Rattle.control_change_laws.specs.NodeModel.Tables.{table}
 use Rattle.control_change_laws.specs.NodeModel.Wants.{is_at, port_at, wanted_by_agent}
-use Rattle.control_change_laws.specs.VpnTables.Listing.{told_in}
+use Rattle.control_change_laws.specs.VpnHoldings.Listing.{told_in}
 
 -- an object that may not be there is attached at this address
 abbrev pub is_here : Addr → Option LowValue → Bool

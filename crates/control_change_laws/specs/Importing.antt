@@ -15,15 +15,15 @@ use Rattle.ov_types.specs.declared.targets.Target.{Target}
 use Rattle.ov_types.specs.declared.vpn.VpnKey.{VpnKey}
 use Rattle.ov_types.specs.declared.vpn.VpnRoute.{VpnRoute}
 use Rattle.route_targets.specs.Numbers.{target_of}
-use Rattle.vpn_tables.specs.NodeModel.Keys.{Publish, Vpn}
-use Rattle.vpn_tables.specs.NodeModel.Maps.{Map}
-use Rattle.vpn_tables.specs.NodeModel.Members.{Member}
-use Rattle.vpn_tables.specs.NodeModel.Paths.{Holdings, Told}
-use Rattle.vpn_tables.specs.NodeModel.Tables.{known_instances}
-use Rattle.vpn_tables.specs.NodeModel.Uses.{Use, imports, uses}
-use Rattle.vpn_tables.specs.NodeModel.Values.{Value, Route}
-use Rattle.vpn_tables.specs.Listing.{hops}
-use Rattle.vpn_tables.specs.Moved.{map_at, told_on}
+use Rattle.vpn_holdings.specs.NodeModel.Keys.{Publish, Vpn}
+use Rattle.vpn_holdings.specs.NodeModel.Maps.{Map}
+use Rattle.vpn_holdings.specs.NodeModel.Members.{Member}
+use Rattle.vpn_holdings.specs.NodeModel.Paths.{Holdings, Told}
+use Rattle.vpn_holdings.specs.NodeModel.Tables.{known_instances}
+use Rattle.vpn_holdings.specs.NodeModel.Uses.{Use, imports, uses}
+use Rattle.vpn_holdings.specs.NodeModel.Values.{Value, Route}
+use Rattle.vpn_holdings.specs.Listing.{hops}
+use Rattle.vpn_holdings.specs.Moved.{map_at, told_on}
 
 -- ---- rows
 -- an instance imports here an instance that has one of these targets

@@ -19,8 +19,8 @@ ghost use Rattle.control_change_laws.specs.NodeModel.Paths.{Holdings, Told};
 ghost use Rattle.control_change_laws.specs.NodeModel.Reaching.{AreShort};
 ghost use Rattle.control_change_laws.specs.NodeModel.Tables.{table};
 ghost use Rattle.control_change_laws.specs.NodeModel.Wants.{wanted_by_agent};
-ghost use Rattle.control_change_laws.specs.VpnTables.Changes.{with_low, with_publication, with_route};
-ghost use Rattle.control_change_laws.specs.VpnTables.Listing.{told_in};
+ghost use Rattle.control_change_laws.specs.VpnHoldings.Changes.{with_low, with_publication, with_route};
+ghost use Rattle.control_change_laws.specs.VpnHoldings.Listing.{told_in};
 ghost use Rattle.control_change_laws.specs.Here.{IsListOfPort, IsRowOf, is_here, port_here, put_by, wanted_on};
 
 /// A change of an object that is no instance and no use, as an attachment or an access list, changes of what an agent

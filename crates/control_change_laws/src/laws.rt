@@ -15,20 +15,20 @@ ghost use Rattle.ov_types.specs.declared.objects.LowValue.{LowValue};
 ghost use Rattle.ov_types.specs.declared.targets.Target.{Target};
 ghost use Rattle.ov_types.specs.declared.vpn.VpnKey.{VpnKey};
 ghost use Rattle.ov_types.specs.declared.vpn.VpnRoute.{VpnRoute};
-ghost use Rattle.vpn_tables.specs.NodeModel.Members.{Member};
-ghost use Rattle.vpn_tables.specs.NodeModel.Keys.{Key, Publish, Row, Vpn};
-ghost use Rattle.vpn_tables.specs.NodeModel.Maps.{object};
-ghost use Rattle.vpn_tables.specs.NodeModel.Paths.{Holdings, Told};
-ghost use Rattle.vpn_tables.specs.NodeModel.Reaching.{AreShort};
-ghost use Rattle.vpn_tables.specs.NodeModel.Tables.{table};
-ghost use Rattle.vpn_tables.specs.NodeModel.Wants.{wanted_by_agent, wanted_by_peers};
-ghost use Rattle.vpn_tables.specs.Changes.{with_low, with_publication, with_route};
-ghost use Rattle.vpn_tables.specs.Moved.{moved_by_publication, moved_by_route};
-ghost use Rattle.vpn_tables.specs.Moved.{targets_by_publication, targets_by_route, told_on};
-ghost use Rattle.vpn_tables.specs.Touched.{rows_by_key, touched, touched_rows};
+ghost use Rattle.vpn_holdings.specs.NodeModel.Members.{Member};
+ghost use Rattle.vpn_holdings.specs.NodeModel.Keys.{Key, Publish, Row, Vpn};
+ghost use Rattle.vpn_holdings.specs.NodeModel.Maps.{object};
+ghost use Rattle.vpn_holdings.specs.NodeModel.Paths.{Holdings, Told};
+ghost use Rattle.vpn_holdings.specs.NodeModel.Reaching.{AreShort};
+ghost use Rattle.vpn_holdings.specs.NodeModel.Tables.{table};
+ghost use Rattle.vpn_holdings.specs.NodeModel.Wants.{wanted_by_agent, wanted_by_peers};
+ghost use Rattle.vpn_holdings.specs.Changes.{with_low, with_publication, with_route};
+ghost use Rattle.vpn_holdings.specs.Moved.{moved_by_publication, moved_by_route};
+ghost use Rattle.vpn_holdings.specs.Moved.{targets_by_publication, targets_by_route, told_on};
+ghost use Rattle.vpn_holdings.specs.Touched.{rows_by_key, touched, touched_rows};
 ghost use Rattle.control_change_laws.specs.Importing.{IsAlongUse, IsAtPrefix, IsOfPublication, IsOfRoute, held_of, route_put};
 ghost use Rattle.control_change_laws.specs.TouchedKeys.{IsTouchedKey};
-ghost use Rattle.vpn_tables.specs.TouchedKeys.{key_published, keys_led};
+ghost use Rattle.vpn_holdings.specs.TouchedKeys.{key_published, keys_led};
 
 /// There are as many touched rows as is touched.
 pub fn touched_rows_are_counted()

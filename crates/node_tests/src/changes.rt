@@ -1,8 +1,9 @@
 //! Changes of tables.
 ghost use Rattle.std.specs.Prelude.{IfOk};
 ghost use Rattle.ov_types.specs.declared.objects.LowKey.TheVariants as low;
-ghost use Rattle.vpn_tables.specs.Ranges.{Fits};
+ghost use Rattle.vpn_holdings.specs.Ranges.{Fits};
 
+use crate::counted::count;
 use crate::words::{instance, key, prefix};
 use case_lines::{CaseFault, address, both, long_number, number, short_number};
 use ov_sync::Delta;
@@ -11,7 +12,7 @@ use ov_types::{
     UpKey, VpnKey, VpnRoute,
 };
 use std::alloc::Global;
-use vpn_stored_rows::StoredTables;
+use vpn_tables::VpnTables;
 
 /// The agent at the first service of the chain, and the one at the second.
 const NEAR: Addr = Addr(0xc000_020b);
@@ -21,12 +22,13 @@ const FAR: Addr = Addr(0xc000_020c);
 /// Makes a change.
 pub(crate) fn change(
     alloc: Global,
-    tables: &mut StoredTables,
+    tables: &mut VpnTables,
     step: &str,
 ) -> Result<(), CaseFault> {
     let (word, given) = step.split_once(" ").unwrap_or((step, ""));
     match word {
         "chain" | "network" | "port" | "list" => feed(alloc, tables, word, given),
+        "drop" => unfeed(tables, given),
         "agent" | "publish" | "withdraw" | "subscribe" => hear(tables, word, given),
         "lead" => lead(alloc, tables, given),
         "unlead" => unlead(alloc, tables, given),
@@ -35,7 +37,7 @@ pub(crate) fn change(
             tables.drop_session(short_number(given)?);
             Ok(())
         }
-        "store" => Ok(tables.refresh()?),
+        "counted" => count(alloc, tables, given),
         _ => Err(CaseFault::Unreadable),
     }
 }
@@ -43,7 +45,7 @@ pub(crate) fn change(
 /// The feed tells an object.
 fn feed(
     alloc: Global,
-    tables: &mut StoredTables,
+    tables: &mut VpnTables,
     word: &str,
     given: &str,
 ) -> Result<(), CaseFault> {
@@ -53,6 +55,15 @@ fn feed(
         "port" => feed_port(tables, address(given)?),
         _ => feed_list(alloc, tables, given),
     }
+}
+
+/// The feed drops a network, or the use of the chain.
+fn unfeed(tables: &mut VpnTables, given: &str) -> Result<(), CaseFault> {
+    let key = match given {
+        "chain" => LowKey::ChainUse(0),
+        _ => LowKey::Instance(short_number(given)?),
+    };
+    Ok(tables.set_low(Delta::Drop(key))?)
 }
 
 fn prefixes(alloc: Global, one: Prefix) -> Result<Items<Prefix>, CaseFault> {
@@ -73,7 +84,7 @@ fn chain_object(alloc: Global, left: Prefix, right: Prefix) -> Result<LowValue, 
     })
 }
 
-fn feed_chain(alloc: Global, tables: &mut StoredTables, given: &str) -> Result<(), CaseFault> {
+fn feed_chain(alloc: Global, tables: &mut VpnTables, given: &str) -> Result<(), CaseFault> {
     let (left, right) = both(given)?;
     let object = chain_object(alloc, prefix(left)?, prefix(right)?)?;
     Ok(tables.set_low(Delta::Put(LowKey::ChainUse(0), object))?)
@@ -96,7 +107,7 @@ fn push_instances(words: &str, instances: &mut Items<InstanceId>) -> Result<(), 
 }
 
 /// A network, and those that it imports.
-fn feed_network(alloc: Global, tables: &mut StoredTables, given: &str) -> Result<(), CaseFault> {
+fn feed_network(alloc: Global, tables: &mut VpnTables, given: &str) -> Result<(), CaseFault> {
     let (network, imported) = both(given)?;
     let network = short_number(network)?;
     let imports = instances(alloc, imported)?;
@@ -104,7 +115,7 @@ fn feed_network(alloc: Global, tables: &mut StoredTables, given: &str) -> Result
 }
 
 fn set_network(
-    tables: &mut StoredTables,
+    tables: &mut VpnTables,
     network: u16,
     imports: Items<InstanceId>,
 ) -> Result<(), CaseFault> {
@@ -113,7 +124,7 @@ fn set_network(
 }
 
 /// Port 1 of network 1 at the near agent.
-fn feed_port(tables: &mut StoredTables, address: Addr) -> Result<(), CaseFault> {
+fn feed_port(tables: &mut VpnTables, address: Addr) -> Result<(), CaseFault> {
     let port = LowValue::AttachPort {
         port: PortNo(1),
         instance: InstanceId(1),
@@ -124,7 +135,7 @@ fn feed_port(tables: &mut StoredTables, address: Addr) -> Result<(), CaseFault> 
 }
 
 /// An access list with no entries, from a network to one.
-fn feed_list(alloc: Global, tables: &mut StoredTables, given: &str) -> Result<(), CaseFault> {
+fn feed_list(alloc: Global, tables: &mut VpnTables, given: &str) -> Result<(), CaseFault> {
     let (from, to) = both(given)?;
     let key = LowKey::Acl {
         from: short_number(from)?,
@@ -138,7 +149,7 @@ fn feed_list(alloc: Global, tables: &mut StoredTables, given: &str) -> Result<()
 }
 
 /// An agent comes to a session, or tells something on it.
-fn hear(tables: &mut StoredTables, word: &str, given: &str) -> Result<(), CaseFault> {
+fn hear(tables: &mut VpnTables, word: &str, given: &str) -> Result<(), CaseFault> {
     let (session, rest) = both(given)?;
     let session = short_number(session)?;
     match word {
@@ -159,7 +170,7 @@ fn published(words: &str) -> Result<UpKey, CaseFault> {
 }
 
 /// An instance, an address and a label.
-fn publication(words: &str) -> Result<Delta<UpKey, Label>, CaseFault> {
+pub(crate) fn publication(words: &str) -> Result<Delta<UpKey, Label>, CaseFault> {
     let (key, label) = words.rsplit_once(" ").ok_or(CaseFault::Unreadable)?;
     Ok(Delta::Put(published(key)?, Label(number(label)?)))
 }
@@ -181,14 +192,14 @@ fn route(alloc: Global, words: &str) -> Result<VpnRoute, CaseFault> {
 }
 
 /// A session, and a key of which it tells something.
-fn led(alloc: Global, words: &str) -> Result<(u16, VpnKey), CaseFault> {
+pub(crate) fn led(alloc: Global, words: &str) -> Result<(u16, VpnKey), CaseFault> {
     let (session, rest) = both(words)?;
     let (digits, block) = both(rest)?;
     Ok((short_number(session)?, key(alloc, digits, block)?))
 }
 
 /// A peer tells a route: its session, its key, and where it leads.
-fn lead(alloc: Global, tables: &mut StoredTables, given: &str) -> Result<(), CaseFault> {
+fn lead(alloc: Global, tables: &mut VpnTables, given: &str) -> Result<(), CaseFault> {
     let (told, leading) = given.split_once(" to ").ok_or(CaseFault::Unreadable)?;
     let (session, key) = led(alloc, told)?;
     let route = route(alloc, leading)?;
@@ -196,13 +207,13 @@ fn lead(alloc: Global, tables: &mut StoredTables, given: &str) -> Result<(), Cas
 }
 
 /// A peer withdraws a route.
-fn unlead(alloc: Global, tables: &mut StoredTables, given: &str) -> Result<(), CaseFault> {
+fn unlead(alloc: Global, tables: &mut VpnTables, given: &str) -> Result<(), CaseFault> {
     let (session, key) = led(alloc, given)?;
     Ok(tables.set_peer_route(session, Delta::Drop(key))?)
 }
 
 /// The agent of session 1 publishes eight ports in each of so many networks, of which each imports all.
-fn relate(alloc: Global, tables: &mut StoredTables, given: &str) -> Result<(), CaseFault> {
+fn relate(alloc: Global, tables: &mut VpnTables, given: &str) -> Result<(), CaseFault> {
     let count = short_number(given)?;
     tables.set_agent(1, NEAR)?;
     for network in 1..=count {
@@ -227,7 +238,7 @@ fn push_networks(networks: &mut Items<InstanceId>, count: u16) -> Result<(), Cas
     Ok(())
 }
 
-fn publish_ports(tables: &mut StoredTables, network: u16) -> Result<(), CaseFault> {
+fn publish_ports(tables: &mut VpnTables, network: u16) -> Result<(), CaseFault> {
     for port in 0..8u32 {
         let number = 8 * u32::from(network) + port;
         let host = Addr(0x0a00_0000 + 256 * u32::from(network) + port);

@@ -8,14 +8,18 @@ mod cases;
 mod changes;
 mod configs;
 mod controls;
+mod counted;
 mod flows;
+mod held;
 mod links;
 mod listing;
 mod nodes;
 mod octets;
+mod paths;
 mod questions;
 mod scene;
 mod tables;
+mod touched;
 mod wanted;
 mod words;
 

@@ -1,50 +1,85 @@
 //! Questions of tables.
 
-use crate::listing::push_key;
+use crate::held::{ask_all, ask_one};
+use crate::paths::{tell_better, tell_selected};
+use crate::touched::{tell_touched, tell_touches};
 use crate::wanted::ask_wanted;
-use crate::words::{instance, key, prefix};
-use case_lines::{CaseFault, begin, both, number, short_number, told};
+use crate::words::{instance, prefix};
+use case_lines::{CaseFault, begin, both, told};
 use ov_io::TextOut;
-use ov_sync::Delta;
-use ov_types::{InstanceId, NoMemory, Prefix, TableRow, VpnKey, VpnRoute};
+use ov_types::{InstanceId, NoMemory, Prefix, TableRow};
 use std::alloc::Global;
-use vpn_stored_rows::StoredTables;
 use vpn_tables::VpnTables;
 
 /// Tells what is asked.
 pub(crate) fn ask(
     alloc: Global,
-    tables: &StoredTables,
+    tables: &VpnTables,
     question: &str,
     out: &mut TextOut,
 ) -> Result<(), CaseFault> {
     let (word, given) = question.split_once(" ").unwrap_or((question, ""));
     match word {
         "rows" => tell_rows(tables, instance(given)?, out),
+        "count" => tell_count(tables, instance(given)?, out),
         "up" => tell_up(tables, given, out),
-        "touched" => tell_touched(alloc, tables.held(), given, out),
-        "count" => tell_count(tables.held(), instance(given)?, out),
-        "publisher" => tell_publisher(tables.held(), number(given)?, out),
-        _ => ask_wanted(alloc, tables.held(), word, given, out),
+        "touched" => tell_touched(alloc, tables, given, out),
+        "touches" => tell_touches(alloc, tables, given, out),
+        "select" => tell_selected(alloc, given, out),
+        "better" => tell_better(given, out),
+        _ => ask_more(alloc, tables, word, given, out),
     }
 }
 
-/// The rows of an instance.
-fn tell_rows(
-    tables: &StoredTables,
-    instance: InstanceId,
+fn ask_more(
+    alloc: Global,
+    tables: &VpnTables,
+    word: &str,
+    given: &str,
     out: &mut TextOut,
 ) -> Result<(), CaseFault> {
-    let rows = tables.table(instance)?;
-    told(push_rows(&rows, out))
+    match word {
+        "own" | "known" | "asn" | "chain" => ask_all(tables, word, out),
+        "publisher" | "subscribed" | "slice" | "address" => ask_one(tables, word, given, out),
+        _ => ask_wanted(alloc, tables, word, given, out),
+    }
 }
 
-fn push_rows(rows: &[(Prefix, TableRow)], out: &mut TextOut) -> Result<(), NoMemory> {
+/// The rows of an instance. Each is also that of its prefix alone.
+fn tell_rows(tables: &VpnTables, instance: InstanceId, out: &mut TextOut) -> Result<(), CaseFault> {
+    let rows = tables.table(instance)?;
+    push_rows(tables, instance, &rows, out)
+}
+
+fn push_rows(
+    tables: &VpnTables,
+    instance: InstanceId,
+    rows: &[(Prefix, TableRow)],
+    out: &mut TextOut,
+) -> Result<(), CaseFault> {
     for (prefix, row) in rows {
-        begin(out)?;
-        write!(out, "{prefix} {row}")?;
+        push_row(prefix, row, out)?;
+        if !is_alone(tables, instance, prefix, row)? {
+            out.push(b", and another row alone")?;
+        }
     }
     Ok(())
+}
+
+fn push_row(prefix: &Prefix, row: &TableRow, out: &mut TextOut) -> Result<(), NoMemory> {
+    begin(out)?;
+    write!(out, "{prefix} {row}")
+}
+
+/// Whether a row is that of its prefix alone.
+fn is_alone(
+    tables: &VpnTables,
+    instance: InstanceId,
+    prefix: &Prefix,
+    row: &TableRow,
+) -> Result<bool, CaseFault> {
+    let alone = tables.row(instance, prefix)?;
+    Ok(alone == Some(*row))
 }
 
 /// How many rows an instance has.
@@ -58,68 +93,9 @@ fn tell_count(
 }
 
 /// Whether a subnet is up at a place, seen from an end.
-fn tell_up(tables: &StoredTables, given: &str, out: &mut TextOut) -> Result<(), CaseFault> {
+fn tell_up(tables: &VpnTables, given: &str, out: &mut TextOut) -> Result<(), CaseFault> {
     let (end, rest) = both(given)?;
     let (place, subnet) = both(rest)?;
     let is_up = tables.up(instance(place)?, &prefix(subnet)?, end == "right");
     told(write!(out, "{is_up}"))
-}
-
-fn tell_publisher(tables: &VpnTables, circuit: u32, out: &mut TextOut) -> Result<(), CaseFault> {
-    match tables.publisher(circuit) {
-        Some((address, label)) => told(write!(out, "{address} {label}")),
-        None => Ok(()),
-    }
-}
-
-/// The rows and the keys that are touched where a peer withdraws a route.
-fn tell_touched(
-    alloc: Global,
-    tables: &VpnTables,
-    given: &str,
-    out: &mut TextOut,
-) -> Result<(), CaseFault> {
-    let (session, rest) = both(given)?;
-    let (digits, block) = both(rest)?;
-    let session = short_number(session)?;
-    let change = Delta::Drop(key(alloc, digits, block)?);
-    push_touched_rows(tables, session, &change, out)?;
-    push_touched_keys(tables, session, &change, out)
-}
-
-fn push_touched_rows(
-    tables: &VpnTables,
-    session: u16,
-    change: &Delta<VpnKey, VpnRoute>,
-    out: &mut TextOut,
-) -> Result<(), CaseFault> {
-    let rows = tables.touched_by_route(session, change)?;
-    told(push_places(&rows, out))
-}
-
-fn push_places(rows: &[(InstanceId, Prefix)], out: &mut TextOut) -> Result<(), NoMemory> {
-    for (instance, prefix) in rows {
-        begin(out)?;
-        write!(out, "{instance} {prefix}")?;
-    }
-    Ok(())
-}
-
-/// The keys towards peers that the targets of the change lead.
-fn push_touched_keys(
-    tables: &VpnTables,
-    session: u16,
-    change: &Delta<VpnKey, VpnRoute>,
-    out: &mut TextOut,
-) -> Result<(), CaseFault> {
-    let targets = tables.targets_by_route(session, change)?;
-    let keys = tables.keys_led(&targets)?;
-    told(push_keys(&keys, out))
-}
-
-fn push_keys(keys: &[VpnKey], out: &mut TextOut) -> Result<(), NoMemory> {
-    for key in keys {
-        push_key(key, out)?;
-    }
-    Ok(())
 }

@@ -7,12 +7,12 @@ use case_lines::{CaseFault, Cases, Tally, both, count_all, number};
 use ov_io::TextOut;
 use ov_types::NoMemory;
 use std::alloc::Global;
-use vpn_stored_rows::StoredTables;
+use vpn_tables::VpnTables;
 
 /// The tables of a case. A line is a question with what is wanted of it behind `=>`, or a change.
 #[derive(Drop)]
 struct Tables {
-    tables: StoredTables,
+    tables: VpnTables,
 }
 
 impl Cases for Tables {
@@ -56,7 +56,7 @@ fn play_in(
     tally: &mut Tally,
 ) -> Result<(), NoMemory> {
     let mut tables = Tables {
-        tables: StoredTables::new(alloc, asn),
+        tables: VpnTables::new(alloc, asn),
     };
     count_all(alloc, name, steps, &mut tables, tally)
 }

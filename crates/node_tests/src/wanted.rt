@@ -84,7 +84,7 @@ fn push_down_key(key: &DownKey, out: &mut TextOut) -> Result<(), NoMemory> {
 }
 
 /// The key of an object of a slice.
-fn push_object(key: &LowKey, out: &mut TextOut) -> Result<(), NoMemory> {
+pub(crate) fn push_object(key: &LowKey, out: &mut TextOut) -> Result<(), NoMemory> {
     match key {
         LowKey::Attach(label) => write!(out, "label {label}"),
         LowKey::Acl { from, to } => write!(out, "list {from} {to}"),

@@ -1,36 +1,25 @@
 -- Lemmas, in the order in which they stand on each other.
-pub mod Images
-pub mod Values
-pub mod Peers
-pub mod Agents
-pub mod Seating
-pub mod Walks
-pub mod Imported
-pub mod Selected
-pub mod Offers
-pub mod Whole
-pub mod Leads
-pub mod KindWalks
-pub mod Uses
-pub mod Counting
-pub mod Farther
-pub mod Listed
-pub mod NoneLed
-pub mod Along
-pub mod Short
-pub mod Before
-pub mod Choosing
-pub mod Keeping
-pub mod Keyed
-pub mod LedAt
-pub mod Once
-pub mod Gathering
-pub mod NodeModel
-pub mod PrefixOrder
-pub mod Staying
-pub mod PeersIndexed
-pub mod AgentsIndexed
-pub mod PathsReceived
-pub mod Subnets
-pub mod WithLed
-pub mod NodeLaws
+mod Order
+mod Places
+mod Keeping
+mod UpStays
+mod Touching
+mod Same
+mod Less
+mod Alike
+mod Dropped
+mod Nothing
+mod Emptied
+mod AgentMoved
+mod ObjectMoved
+mod Possible
+mod TableListed
+-- What is passed on of `vpn_holdings`, so that the crates above need not list it.
+pub use Rattle.vpn_holdings.proofs.AgentsIndexed
+pub use Rattle.vpn_holdings.proofs.Choosing
+pub use Rattle.vpn_holdings.proofs.Images
+pub use Rattle.vpn_holdings.proofs.Keyed
+pub use Rattle.vpn_holdings.proofs.Leads
+pub use Rattle.vpn_holdings.proofs.Uses
+pub use Rattle.vpn_holdings.proofs.NodeModel
+pub use Rattle.vpn_holdings.proofs.NodeLaws

@@ -1,31 +1,16 @@
-//! The tables of a control node, from what it holds. Each route is held once, and found by its session and by its prefix.
+//! The tables of a control node: what it holds, and what follows of it for each instance and prefix, stored and made anew
+//! where a change touches it.
 #![tactic(auto)]
 
-mod at;
-mod chains;
-mod forgetting;
-mod gathered;
-mod imports;
-mod kept;
-mod keys;
-mod kinds;
-mod leading;
-mod least;
+mod agents;
+mod asked;
+mod counted;
+mod dropping;
+mod following;
 mod listing;
-mod moved;
-mod places;
-mod ports;
-mod publishing;
-mod reaching;
-mod received;
-mod routes;
-mod sessions;
-mod table;
+mod objects;
+mod stored;
 mod tables;
-mod touching;
-mod within;
 
-pub use chains::Side;
-pub use gathered::in_order;
-pub use routes::Route;
 pub use tables::VpnTables;
+pub use vpn_holdings::{Route, Side, in_order};

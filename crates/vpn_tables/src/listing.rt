@@ -1,210 +1,87 @@
-//! Lists of what is held, from which a control node makes what it wants and shows.
-ghost use Rattle.std.specs.Prelude.{◌≡◌, ◌==◌, ◌++◌, [], ◌∷◌, Some, OnOk, IfOk, map, option_copied};
-ghost use Rattle.std.specs.List.{filter_map};
-ghost use Rattle.std.specs.FinMap.{entries};
-ghost use Rattle.path_select.specs.NodeModel.Keys.{of_up};
-ghost use Rattle.path_select.specs.NodeModel.Maps.{objects};
-ghost use Rattle.path_select.specs.NodeModel.Paths.{own_path, own_paths};
-ghost use Rattle.path_select.specs.NodeModel.Reaching.{below};
-ghost use Rattle.path_select.specs.NodeModel.Tables.{known_instances, network_of};
-ghost use Rattle.path_select.specs.NodeModel.Uses.{hop};
-ghost use Rattle.path_select.specs.NodeModel.Wants.{slice, subscribed, subscriptions};
-ghost use Rattle.vpn_tables.specs.Leading.{use_at};
-ghost use Rattle.vpn_tables.specs.Listing.{hops_of_held, in_slice, sliced, told_by, told_in};
-ghost use Rattle.vpn_tables.specs.Routes.{path_of};
-ghost use Rattle.vpn_tables.specs.Views.{agent_of};
+//! Tables, from what is stored.
+ghost use Rattle.std.specs.Prelude.{◌≡◌, ◌++◌, [], IfOk, OnOk};
+ghost use Rattle.std.specs.BTreeMap.{IsOrdered};
+ghost use Rattle.std.specs.List.{cons_option, filter_map};
+ghost use Rattle.std.specs.Option.{option_map};
+ghost use Rattle.vpn_holdings.specs.At.{shown};
+ghost use Rattle.vpn_tables.specs.Listed.{row_in};
+ghost use Rattle.vpn_tables.specs.Stored.{row_order};
 
-use crate::chains::Side;
-use crate::routes::Route;
-use crate::tables::{Agent, VpnTables};
-use ov_types::{Addr, InstanceId, LowKey, LowValue, NoMemory, UpKey};
-use route_targets::hop_instance;
+use crate::stored::{Entry, RowKey, Stored};
+use ov_types::{Addr, InstanceId, NoMemory, Prefix, TableRow};
+use path_select::Path;
 use std::alloc::Global;
+use std::collections::btree_map::Range;
+use std::ops::Bound;
 
-impl VpnTables {
-    /// The own routes, by session and then by publication. Two may have one key; the first of these counts.
-    pub fn own_routes(&self) -> Result<Vec<Route>, NoMemory>
-        ensures { IfOk result (λ routes. map path_of routes.items ≡ own_paths self.now) }
-    {
-        let mut routes = Vec::new(self.alloc);
-        for agent in &self.agents {
-            self.push_own(&mut routes, agent)?;
-        }
-        Ok(routes)
-    }
-
-    /// Appends the routes of an agent's publications.
-    fn push_own(&self, routes: &mut Vec<Route>, agent: &Agent) -> Result<(), NoMemory>
-        ensures { OnOk result (map path_of routes.new.items ≡ map path_of routes.old.items
-            ++ filter_map (λ e. own_path self.now (agent_of agent.now) e.0 e.1) (entries (agent_of agent.now).map)) }
-    {
-        for (key, label) in agent.told.iter() {
-            if let Some(route) = self.own_route(agent, key, *label) {
-                routes.push(route)?;
-            }
-        }
-        Ok(())
-    }
-
-    /// The slice of an address: the attachments there, and the access lists of the networks of its ports, in the order
-    /// of their keys.
-    pub fn slice(&self, address: Addr) -> Result<Vec<(LowKey, LowValue)>, NoMemory>
-        ensures { IfOk result (λ objects. objects.items ≡ slice self.now.feed address) }
-    {
-        let mut objects = Vec::new(self.alloc);
-        for (key, value) in self.held_for_agents() {
-            if self.is_in_slice(address, key, value) {
-                let object = copy_of(value)?;
-                objects.push((*key, object))?;
-            }
-        }
-        Ok(objects)
-    }
-
-    /// The object of a key, where it is of the slice of an address. It takes no memory but for the object.
-    pub fn sliced(&self, address: Addr, key: &LowKey) -> Result<Option<LowValue>, NoMemory>
-        ensures { IfOk result (λ object. object ≡ sliced self.now.feed address key.now) }
-    {
-        match self.low(key) {
-            Some(value) => self.copy_sliced(address, key, value),
-            None => Ok(None),
-        }
-    }
-
-    fn copy_sliced(
-        &self,
-        address: Addr,
-        key: &LowKey,
-        value: &LowValue,
-    ) -> Result<Option<LowValue>, NoMemory>
-        ensures { IfOk result (λ object. object ≡ in_slice self.now.feed address key.now (Some value.now)) }
-    {
-        if !self.is_in_slice(address, key, value) {
-            return Ok(None);
-        }
-        let object = copy_of(value)?;
-        Ok(Some(object))
-    }
-
-    /// The instances that the agent of a session subscribed, in order: none where the session is no agent's.
-    pub fn subscriptions(&self, session: u16) -> Result<Vec<InstanceId>, NoMemory>
-        ensures { IfOk result (λ instances. instances.items ≡ subscriptions (told_in self.now.agents session).map) }
-    {
-        match self.agent(session) {
-            Some(agent) => agent.subscriptions(self.alloc),
-            None => Ok(Vec::new(self.alloc)),
-        }
-    }
-
-    /// The address of the agent of a session: 0.0.0.0 where the session is no agent's. It takes no memory.
-    pub fn address_of(&self, session: u16) -> Addr
-        ensures { result ≡ (told_in self.now.agents session).address }
-    {
-        match self.agent(session) {
-            Some(agent) => agent.address,
-            None => Addr(0),
-        }
-    }
-
-    pub(crate) fn agent(&self, session: u16) -> Option<&Agent>
-        ensures { told_by session (option_copied result) ≡ told_in self.now.agents session }
-    {
-        for agent in &self.agents {
-            if agent.session == session {
-                return Some(agent);
-            }
-        }
-        None
-    }
-
-    /// The known instances, in order: the networks that are held, and then the places of the uses that are held.
-    pub fn known_instances(&self) -> Result<Vec<InstanceId>, NoMemory>
-        ensures { IfOk result (λ instances. instances.items ≡ known_instances self.now.feed) }
-    {
-        let mut instances = self.networks()?;
-        for (key, _value) in self.held_uses() {
-            self.push_hops(&mut instances, key)?;
-        }
-        Ok(instances)
-    }
-
-    /// The networks that are held.
-    fn networks(&self) -> Result<Vec<InstanceId>, NoMemory>
-        ensures { IfOk result (λ networks. networks.items
-            ≡ filter_map (λ e. network_of e.0) (objects self.now.feed)) }
-    {
-        let mut networks = Vec::new(self.alloc);
-        for (key, _value) in self.held_networks() {
-            if let Some(network) = network_of(key) {
-                networks.push(network)?;
-            }
-        }
-        Ok(networks)
-    }
-
-    /// The places of the use that is held at a key.
-    fn push_hops(&self, instances: &mut Vec<InstanceId>, key: &LowKey) -> Result<(), NoMemory>
-        ensures { OnOk result (instances.new.items
-            ≡ instances.old.items ++ hops_of_held (use_at self.now.feed key.now)) }
-    {
-        let LowKey::ChainUse(number) = *key else {
-            return Ok(());
-        };
-        match self.side(number, false) {
-            Some(side) => push_places(instances, &side),
-            None => Ok(()),
-        }
-    }
+/// What is shown of a path.
+pub(crate) fn shown(path: Option<Path>) -> Option<TableRow>
+    ensures { result ≡ option_map shown path }
+{
+    let path = path?;
+    Some(TableRow {
+        rd: path.rd,
+        next_hop: path.next_hop,
+        label: path.label,
+    })
 }
 
-/// The instance of each place of a use.
-pub(crate) fn push_places(instances: &mut Vec<InstanceId>, side: &Side<'_>) -> Result<(), NoMemory>
-    ensures { OnOk result (instances.new.items ≡ instances.old.items
-        ++ map (hop side.now.chain) (below side.now.chain.services ++ side.now.chain.services ∷ [])) }
+/// The least key of an instance.
+fn first_of(instance: InstanceId) -> RowKey
+    ensures instance { result.instance ≡ instance }
+    ensures addr { result.prefix.addr ≡ 0 }
+    ensures len { result.prefix.len ≡ 0 }
 {
-    for place in 0..=side.services() {
-        instances.push(hop_instance(side.number(), place))?;
+    let prefix = match Prefix::new(Addr(0), 0) {
+        Some(prefix) => prefix,
+        None => Prefix::host(Addr(0)),
+    };
+    RowKey { instance, prefix }
+}
+
+/// What is stored of an instance, among it all of its rows.
+fn entries_of(stored: &Stored, i: InstanceId) -> Range<'_, RowKey, Entry>
+    ensures rows { filter_map (row_in i) result ≡ filter_map (row_in i) stored.now.entries }
+    ensures ordered { IsOrdered row_order stored.now }
+{
+    let first = first_of(i);
+    if i.0 == 65535 {
+        return stored.range((Bound::Included(first), Bound::Unbounded));
+    }
+    let past = first_of(InstanceId(i.0 + 1));
+    stored.range((Bound::Included(first), Bound::Excluded(past)))
+}
+
+/// The rows of an instance, in the order of their prefixes.
+pub(crate) fn listed(
+    alloc: Global,
+    stored: &Stored,
+    i: InstanceId,
+) -> Result<Vec<(Prefix, TableRow)>, NoMemory>
+    ensures rows { IfOk result (λ rows. rows.items ≡ filter_map (row_in i) stored.now.entries) }
+    ensures ordered { IsOrdered row_order stored.now }
+{
+    let mut rows = Vec::new(alloc);
+    for (key, entry) in entries_of(stored, i) {
+        push_row(&mut rows, key, entry, i)?;
+    }
+    Ok(rows)
+}
+
+/// Appends the row that is stored in a place, where there is one and it is of an instance.
+fn push_row(
+    rows: &mut Vec<(Prefix, TableRow)>,
+    key: &RowKey,
+    entry: &Entry,
+    i: InstanceId,
+) -> Result<(), NoMemory>
+    ensures { OnOk result (rows.new.items ≡ rows.old.items ++ cons_option (row_in i (key.now, entry.now)) []) }
+{
+    if key.instance.0 != i.0 {
+        return Ok(());
+    }
+    if let Some(row) = shown(entry.path) {
+        rows.push((key.prefix, row))?;
     }
     Ok(())
-}
-
-impl Agent {
-    /// The instances that it subscribed.
-    fn subscriptions(&self, alloc: Global) -> Result<Vec<InstanceId>, NoMemory>
-        ensures { IfOk result (λ instances. instances.items ≡ subscriptions (agent_of self.now).map) }
-    {
-        let mut instances = Vec::new(alloc);
-        for (key, _label) in self.told.iter() {
-            if let Some(instance) = subscribed(key) {
-                instances.push(instance)?;
-            }
-        }
-        Ok(instances)
-    }
-}
-
-fn copy_of(value: &LowValue) -> Result<LowValue, NoMemory>
-    ensures { IfOk result (λ copy. copy ≡ value.now) }
-{
-    Ok(value.clone()?)
-}
-
-/// The network of a key, where it is a network's.
-fn network_of(key: &LowKey) -> Option<InstanceId>
-    ensures { result ≡ network_of key.now }
-{
-    match *key {
-        LowKey::Instance(number) => Some(InstanceId(number)),
-        _ => None,
-    }
-}
-
-/// The instance that a key subscribes, where it does.
-fn subscribed(key: &UpKey) -> Option<InstanceId>
-    ensures { result ≡ subscribed (of_up key.now) }
-{
-    match *key {
-        UpKey::Subscribe(instance) => Some(instance),
-        UpKey::Publish(_, _) => None,
-    }
 }

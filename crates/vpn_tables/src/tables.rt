@@ -1,77 +1,47 @@
-//! What a control node holds.
-ghost use Rattle.std.specs.Prelude.{◌≡◌, true, OnOk, OnErr, IfSome, option_copied};
-ghost use Rattle.node_laws.specs.Quiet.{PublishesNothing};
+//! What a control node holds, with what follows from it, and how it changes.
+ghost use Rattle.std.specs.Prelude.{◌≡◌, ◌≤◌, ◌<◌, ◌+◌, OnOk, OnErr};
 ghost use Rattle.ov_sync.specs.Keyed.{PutOf, IsPut};
-ghost use Rattle.path_select.specs.NodeModel.Maps.{object};
-ghost use Rattle.vpn_tables.specs.Listing.{told_in};
-ghost use Rattle.vpn_tables.specs.Ranges.{Fits};
-ghost use Rattle.vpn_tables.specs.Changes.{nothing, with_low, with_route, with_agent, with_publication, without};
+ghost use Rattle.vpn_holdings.specs.Changes.{nothing, with_low, with_route, with_agent, with_publication, without};
+ghost use Rattle.vpn_holdings.specs.Moved.{targets_by_publication, targets_by_route};
+ghost use Rattle.vpn_holdings.specs.Ranges.{Fits};
+ghost use Rattle.vpn_holdings.specs.Touched.{touched};
 
-use crate::forgetting::{forget_labels, forget_routes};
-use crate::kept::{set_route, set_told};
-use crate::moved::told_key;
-use crate::places::{Labels, Routes, place_told};
-use crate::ports::{Objects, Ports, drop_object, put_object};
-use crate::publishing::has_label;
-use crate::sessions::{empty_agent, empty_at, name_agent};
-use ov_sync::{Delta, SyncIn};
+use crate::agents::change_agent;
+use crate::counted::{change_publication, change_route};
+use crate::dropping::drop_session;
+use crate::objects::change_low;
+use crate::stored::Stored;
+use ov_sync::Delta;
 use ov_types::{Addr, Label, LowKey, LowValue, NoMemory, UpKey, VpnKey, VpnRoute};
+use path_select::Steps;
 use std::alloc::Global;
 use std::collections::BTreeMap;
-use std::marker::Model;
+use std::marker::{Brand, Model};
+use std::sync::ledger::{Blank, Ledger};
+use vpn_holdings::VpnHoldings;
 
 /// What a control node holds of its sessions, and what follows from it. Session 0 is the feed; the sessions of peers
 /// and of agents are told apart by the calls.
 #[derive(Drop)]
 pub struct VpnTables {
-    pub(crate) asn: u32,
-    pub(crate) low: Objects,
-    pub(crate) ports: Ports,
-    /// What peers told, by their sessions: session 1, 2 and so on.
-    pub(crate) peers: Vec<SyncIn<VpnKey, VpnRoute>>,
-    /// What agents told, in the order of their sessions.
-    pub(crate) agents: Vec<Agent>,
-    /// Where the routes of peers stand, by prefix.
-    pub(crate) routes: Routes,
-    /// Where the publications of agents stand, by prefix.
-    pub(crate) labels: Labels,
+    pub(crate) held: VpnHoldings,
+    /// What follows of each instance and prefix.
+    pub(crate) stored: Stored,
     pub(crate) alloc: Global,
 }
 
-/// What an agent told on its session.
-#[derive(Drop)]
-pub(crate) struct Agent {
-    pub(crate) session: u16,
-    pub(crate) address: Addr,
-    pub(crate) told: SyncIn<UpKey, Label>,
-}
-
 impl Model for VpnTables {
-    ghost use Rattle.path_select.specs.NodeModel.Paths.{Holdings};
+    ghost use Rattle.vpn_holdings.specs.NodeModel.Paths.{Holdings};
+    ghost use Rattle.vpn_holdings.specs.Codes.{coded_holdings};
+    ghost use Rattle.vpn_tables.specs.Stored.{AreStored};
 
     ghost Value = { Holdings };
 
-    ghost use Rattle.vpn_tables.specs.Codes.{coded_holdings};
-
     ghost coded = { coded_holdings };
 
-    ghost use Rattle.std.specs.Prelude.{◌≤◌, length, map};
-    ghost use Rattle.ov_sync.specs.Keyed.{map_of, Values};
-    ghost use Rattle.vpn_tables.specs.Ranges.{Fits};
-    ghost use Rattle.vpn_tables.specs.Indexed.{AreInOrder, AreLabels, AreRoutes};
-    ghost use Rattle.vpn_tables.specs.Ports.{AreCounted};
-    ghost use Rattle.vpn_tables.specs.Views.{low_order, feed_of, peer_of, agent_of};
+    ghost view = { λ s. s.held };
 
-    ghost view = { λ s. record {
-      asn = s.asn;
-      feed = feed_of s.low.entries;
-      peers = map peer_of s.peers.items;
-      agents = map agent_of s.agents.items;
-    } };
-
-    ghost invariant = { λ s. Values Fits (map_of low_order s.low.entries) × (length s.peers.items ≤ 65535)
-        × AreCounted s.ports (feed_of s.low.entries) × AreRoutes s.routes (map peer_of s.peers.items)
-        × AreLabels s.labels (map agent_of s.agents.items) × AreInOrder (map agent_of s.agents.items) };
+    ghost invariant = { λ s. AreStored s.stored s.held };
 }
 
 impl VpnTables {
@@ -80,13 +50,8 @@ impl VpnTables {
         ensures { result ≡ nothing asn }
     {
         VpnTables {
-            asn,
-            low: BTreeMap::new(alloc),
-            ports: BTreeMap::new(alloc),
-            peers: Vec::new(alloc),
-            agents: Vec::new(alloc),
-            routes: BTreeMap::new(alloc),
-            labels: BTreeMap::new(alloc),
+            held: VpnHoldings::new(alloc, asn),
+            stored: BTreeMap::new(alloc),
             alloc,
         }
     }
@@ -98,13 +63,51 @@ impl VpnTables {
         ensures err { OnErr result (self.new ≡ self.old) }
         ensures memory { OnErr result (IsPut delta) }
     {
-        match delta {
-            Delta::Put(key, value) => put_object(&mut self.low, &mut self.ports, key, value),
-            Delta::Drop(key) => {
-                drop_object(&mut self.low, &mut self.ports, &key);
-                Ok(())
-            }
-        }
+        change_low(self.alloc, &mut self.held, &mut self.stored, delta)
+    }
+
+    /// Applies a change that a peer told on its session. Session 0 is the feed, which tells no routes. It takes at most as
+    /// many steps as the change touches.
+    pub fn set_peer_route_counted<L: Ledger>(
+        &mut self,
+        session: u16,
+        delta: Delta<VpnKey, VpnRoute>,
+        steps: &mut Steps<L>,
+    ) -> Result<(), NoMemory>
+        ensures ok { OnOk result (self.new ≡ with_route self.old session delta) }
+        ensures err { OnErr result (self.new ≡ self.old) }
+        ensures steps { steps.new ≤ steps.old + touched self.old (targets_by_route self.old session delta) }
+    {
+        change_route(
+            self.alloc,
+            &mut self.held,
+            &mut self.stored,
+            session,
+            delta,
+            steps,
+        )
+    }
+
+    /// Applies a change that an agent told on its session. A session that is no agent's changes nothing. It takes at most
+    /// as many steps as the change touches.
+    pub fn set_publication_counted<L: Ledger>(
+        &mut self,
+        session: u16,
+        delta: Delta<UpKey, Label>,
+        steps: &mut Steps<L>,
+    ) -> Result<(), NoMemory>
+        ensures ok { OnOk result (self.new ≡ with_publication self.old session delta) }
+        ensures err { OnErr result (self.new ≡ self.old) }
+        ensures steps { steps.new ≤ steps.old + touched self.old (targets_by_publication self.old session delta) }
+    {
+        change_publication(
+            self.alloc,
+            &mut self.held,
+            &mut self.stored,
+            session,
+            delta,
+            steps,
+        )
     }
 
     /// Applies a change that a peer told on its session. Session 0 is the feed, which tells no routes.
@@ -116,17 +119,7 @@ impl VpnTables {
         ensures ok { OnOk result (self.new ≡ with_route self.old session delta) }
         ensures err { OnErr result (self.new ≡ self.old) }
     {
-        if session == 0 {
-            return Ok(());
-        }
-        set_route(
-            self.alloc,
-            &mut self.peers,
-            &mut self.routes,
-            session,
-            delta,
-        )?;
-        Ok(())
+        set_route_on::<Brand>(self, session, delta, Blank::new(1))
     }
 
     /// Says whose session it is. What its agent told stays.
@@ -134,8 +127,13 @@ impl VpnTables {
         ensures ok { OnOk result (self.new ≡ with_agent self.old session address) }
         ensures err { OnErr result (self.new ≡ self.old) }
     {
-        name_agent(self.alloc, &mut self.agents, session, address)?;
-        Ok(())
+        change_agent(
+            self.alloc,
+            &mut self.held,
+            &mut self.stored,
+            session,
+            address,
+        )
     }
 
     /// Applies a change that an agent told on its session. A session that is no agent's changes nothing.
@@ -147,46 +145,45 @@ impl VpnTables {
         ensures ok { OnOk result (self.new ≡ with_publication self.old session delta) }
         ensures err { OnErr result (self.new ≡ self.old) }
     {
-        let place = place_told(self, session, &told_key(&delta));
-        set_told(&mut self.agents, &mut self.labels, place, session, delta)?;
-        Ok(())
+        set_publication_on::<Brand>(self, session, delta, Blank::new(1))
     }
 
     /// Empties what a session gave; whose session it is stays. It takes no memory.
     pub fn drop_session(&mut self, session: u16)
         ensures { self.new ≡ without self.old session }
     {
-        empty_agent(&mut self.agents, session);
-        forget_routes(&mut self.routes, session);
-        forget_labels(&mut self.labels, session);
-        if session == 0 {
-            self.low.clear();
-            self.ports.clear();
-            return;
-        }
-        empty_at(&mut self.peers, usize::from(session - 1));
+        drop_session(&mut self.held, &mut self.stored, session);
     }
+}
 
-    /// Whether nothing is published on a session, whatever is subscribed. It takes no memory.
-    pub fn publishes_nothing(&self, session: u16) -> bool
-        ensures only_if_nothing { result ≡ true → PublishesNothing (told_in self.now.agents session).map }
-        ensures if_nothing { PublishesNothing (told_in self.now.agents session).map → result ≡ true }
-    {
-        !has_label(&self.labels, session)
-    }
+fn set_route_on<L: Ledger>(
+    tables: &mut VpnTables,
+    session: u16,
+    delta: Delta<VpnKey, VpnRoute>,
+    blank: Blank,
+) -> Result<(), NoMemory>
+    requires name { blank.name ≡ L.name }
+    requires parts { blank.parts ≡ L.parts }
+    requires some { 0 < blank.parts }
+    ensures ok { OnOk result (tables.new ≡ with_route tables.old session delta) }
+    ensures err { OnErr result (tables.new ≡ tables.old) }
+{
+    let mut steps = Steps::<L>::new(blank);
+    tables.set_peer_route_counted(session, delta, &mut steps)
+}
 
-    /// The object that is held at a key. It takes no memory.
-    pub fn low(&self, key: &LowKey) -> Option<&LowValue>
-        ensures object { option_copied result ≡ object self.now.feed key.now }
-        ensures fits { IfSome result (λ value. Fits key.now value.now) }
-    {
-        self.low.get(key)
-    }
-
-    /// The AS number. It takes no memory.
-    pub fn asn(&self) -> u32
-        ensures { result ≡ self.now.asn }
-    {
-        self.asn
-    }
+fn set_publication_on<L: Ledger>(
+    tables: &mut VpnTables,
+    session: u16,
+    delta: Delta<UpKey, Label>,
+    blank: Blank,
+) -> Result<(), NoMemory>
+    requires name { blank.name ≡ L.name }
+    requires parts { blank.parts ≡ L.parts }
+    requires some { 0 < blank.parts }
+    ensures ok { OnOk result (tables.new ≡ with_publication tables.old session delta) }
+    ensures err { OnErr result (tables.new ≡ tables.old) }
+{
+    let mut steps = Steps::<L>::new(blank);
+    tables.set_publication_counted(session, delta, &mut steps)
 }

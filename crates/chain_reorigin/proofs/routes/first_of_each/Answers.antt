@@ -1,7 +1,7 @@
 use Rattle.std.proofs.Common.{ap, sym, ◌∙◌, List, map, ◌++◌}
 use Rattle.ov_sync.specs.Keyed.{map_of}
 use Rattle.ov_sync.proofs.Ascending.{map_of-insert}
-use Rattle.vpn_tables.specs.declared.routes.Route.{Route}
+use Rattle.vpn_holdings.specs.declared.routes.Route.{Route}
 use Rattle.vpn_tables.specs.Views.{vpn_order}
 use Rattle.vpn_tables.proofs.NodeModel.Directions.{vpn_total}
 use Rattle.chain_reorigin.specs.Counting.{keyed}

@@ -3,7 +3,7 @@ use Rattle.std.specs.declared.option.Option.{Option}
 use Rattle.std.specs.Option.{option_map}
 use Rattle.ov_types.specs.declared.vpn.VpnRoute.{VpnRoute}
 use Rattle.node_routes.specs.NodeModel.Values.{Route}
-use Rattle.vpn_tables.specs.declared.routes.Route.{Route as Led}
+use Rattle.vpn_holdings.specs.declared.routes.Route.{Route as Led}
 use Rattle.vpn_tables.specs.Routes.{path_of}
 use Rattle.control_wants.proofs.OneKey.{route_wanted, told_value}
 use Rattle.control_wants.proofs.keyed.wanted_route.Goals as goal

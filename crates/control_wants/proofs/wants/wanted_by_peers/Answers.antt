@@ -3,7 +3,7 @@ use Rattle.std.specs.FinMap.{from_entries}
 use Rattle.ov_types.specs.declared.vpn.VpnKey.{VpnKey}
 use Rattle.ov_types.specs.declared.vpn.VpnRoute.{VpnRoute}
 use Rattle.node_routes.specs.NodeModel.Paths.{Path}
-use Rattle.vpn_tables.specs.declared.routes.Route.{Route}
+use Rattle.vpn_holdings.specs.declared.routes.Route.{Route}
 use Rattle.vpn_tables.specs.Routes.{path_of}
 use Rattle.vpn_tables.specs.Views.{vpn_order}
 use Rattle.chain_reorigin.specs.Told.{told_path}

@@ -1,13 +1,19 @@
-use Rattle.std.proofs.Common.{◌↔◌, List, sym, ◌∙◌, subst}
-use Rattle.path_select.specs.NodeModel.Members.{Member}
-use Rattle.path_select.specs.declared.selection.Path.{Path}
-use Rattle.vpn_tables.specs.At.{paths_at}
-use Rattle.vpn_tables.proofs.Choosing.{chosen_row}
+use Rattle.std.proofs.Common.{ap, sym, ◌∙◌}
+use Rattle.std.specs.FinMap.{get}
+use Rattle.std.specs.Option.{option_map}
+use Rattle.node_model.specs.Paths.{Holdings}
+use Rattle.node_model.specs.Tables.{table}
+use Rattle.vpn_holdings.specs.At.{row_at, shown}
+use Rattle.vpn_holdings.proofs.Choosing.{shown_plain}
+use Rattle.vpn_tables.specs.Stored.{key_at, stored_at}
+use Rattle.vpn_tables.specs.declared.stored.Entry.{Entry}
 use Rattle.vpn_tables.proofs.tables.VpnTables.row.Goals as goal
 
 pub returns : goal.returns
 returns c =
-    let all = paths_at c.args.self.now c.args.i c.args.prefix.now in
-    c.row_of.ensures
-    ∙ sym (chosen_row c.args.self.now c.args.i c.args.prefix.now c.as_slice.result.now c.best_of-best.result
-    (λ p. subst (λ (ps : List Path). Member p ps ↔ Member p all) (sym c.as_slice.ensures.value) (c.in_ok-paths.ensures p)) c.best_of-best.ensures)
+    let s = c.self.inside in
+    let i = c.args.i in
+    let q = c.args.prefix.now in
+    c.shown.ensures
+    ∙ ap (λ (e : Entry). option_map shown e.path) (c.entry_at-entry.ensures ∙ ap (stored_at s.stored) c.row_key.ensures ∙ c.self.invariant (key_at (i, q)))
+    ∙ sym (shown_plain (get (table s.held i) q)) ∙ ap (λ (h : Holdings). row_at h i q) c.self.view_is

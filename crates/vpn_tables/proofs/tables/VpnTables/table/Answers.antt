@@ -1,22 +1,18 @@
-use Rattle.std.proofs.Common.{◌∙◌, ap, List}
-use Rattle.std.specs.List.{filter}
-use Rattle.path_select.specs.NodeModel.Paths.{has_target, own_paths, peer_paths}
-use Rattle.ov_types.specs.Prefix.{Block}
-use Rattle.ov_types.specs.declared.targets.Target.{Target}
-use Rattle.path_select.specs.declared.selection.Path.{Path}
-use Rattle.vpn_tables.specs.Answers.{is_wanted}
-use Rattle.vpn_tables.specs.Least.{least_of, offer_all}
-use Rattle.vpn_tables.proofs.Whole.{rows_whole}
+use Rattle.std.proofs.Common.{◌∙◌, ap}
+use Rattle.std.specs.Result.{IfOk}
+use Rattle.std.specs.declared.result.Result.{Result}
+use Rattle.std.specs.declared.result.Result.TheVariants.{Ok, Err}
+use Rattle.node_model.specs.Paths.{Holdings}
+use Rattle.vpn_holdings.specs.Answers.{rows_at}
+use Rattle.vpn_tables.proofs.TableListed.{table_listed}
 use Rattle.vpn_tables.proofs.tables.VpnTables.table.Goals as goal
+
+both_ok : {A E : Type 0} {P R : A → Type 0} (r : Result A E) → ((x : A) → P x → R x) → IfOk r P → IfOk r R
+both_ok (Ok x) f p = f x p
+both_ok (Err e) f p = tt
 
 pub returns : goal.returns
 returns c =
-    let h = c.args.self.now in
-    c.in_ok-rows.ensures.rows
-    ∙ rows_whole h c.args.i (least_of c.offer_agents.new.least) (least_of c.offer_peers.new.least) c.offer_led.new.least c.in_ok-rows.ensures.ascending
-    (c.in_ok-offer_agents.ensures
-    ∙ ap (λ (w : List Target). offer_all (least_of c.new-least.result) (filter (has_target w) (own_paths h))) c.imported-imports.ensures
-    ∙ ap (λ (es : List (Block × Path)). offer_all (least_of es) (filter (is_wanted h c.args.i) (own_paths h))) c.new-least.ensures)
-    (c.in_ok-offer_peers.ensures
-    ∙ ap (λ (w : List Target). offer_all (least_of c.offer_agents.new.least) (filter (has_target w) (peer_paths h))) c.imported-imports.ensures)
-    c.in_ok-offer_led.ensures
+    both_ok c.listed.result (λ x is.
+    is ∙ table_listed c.self.inside.held c.args.i c.self.inside.stored c.self.invariant c.listed.ensures.ordered ∙ ap (λ (h : Holdings). rows_at h c.args.i) c.self.view_is)
+    c.listed.ensures.rows

@@ -1,0 +1,29 @@
+use Rattle.std.proofs.Common.{List, ap, sym, ◌∙◌, map}
+use Rattle.std.specs.Prelude.{None}
+use Rattle.ov_sync.specs.declared.Delta.TheVariants.{Drop}
+use Rattle.ov_sync.specs.declared.Delta.{Delta}
+use Rattle.ov_sync.specs.Embed.{moved_delta}
+use Rattle.ov_types.specs.declared.vpn.VpnKey.{VpnKey}
+use Rattle.ov_types.specs.declared.vpn.VpnRoute.{VpnRoute}
+use Rattle.path_select.specs.NodeModel.Keys.{Vpn}
+use Rattle.path_select.specs.NodeModel.Maps.{Map}
+use Rattle.path_select.specs.NodeModel.Values.{Route}
+use Rattle.vpn_holdings.specs.Changes.{changed_at}
+use Rattle.vpn_holdings.specs.Indexed.{if_told, route_in, route_order, vpn_key}
+use Rattle.vpn_holdings.specs.Views.{peer_of}
+use Rattle.vpn_holdings.specs.declared.places.RouteAt.{RouteAt}
+use Rattle.vpn_holdings.proofs.PeersIndexed.{apart, drop_here, later}
+use Rattle.vpn_holdings.proofs.PrefixOrder.{route_exact, route_itself}
+use Rattle.vpn_holdings.proofs.Staying.{kept_at}
+use Rattle.vpn_holdings.proofs.kept.drop_route.Goals as goal
+
+pub returns-clause-routes : goal.returns-clause-routes
+returns-clause-routes c = λ k.
+    let maps = map peer_of c.args.peers.now.items in
+    let at = c.route_at-at.result in
+    let d : Delta VpnKey VpnRoute = Drop c.args.key in
+    let applied = c.in_ok-change_at.ensures.ok ∙ ap (λ n. changed_at maps n (moved_delta Vpn Route d)) c.from.ensures in
+    let told = λ (ms : List Map) (q : RouteAt). if_told (vpn_key q).prefix (route_in ms q) in
+    kept_at route_order route_exact route_itself c.args.routes.now c.remove.new.self at None (told maps) (told (map peer_of c.change_at.new.peers.items)) c.requires.kept c.remove.ensures.updates.0
+    (ap (λ ms. told ms at) applied ∙ ap (told (later maps c.args.session d)) c.route_at-at.ensures ∙ ap (if_told c.args.key.prefix) (drop_here maps c.args.session c.args.key c.requires.session))
+    (λ q away. ap (λ ms. told ms q) applied ∙ ap (if_told (vpn_key q).prefix) (apart maps c.args.session d q c.requires.session (λ e. away (e ∙ sym c.route_at-at.ensures)))) k

@@ -1,4 +1,0 @@
-use Rattle.vpn_stored_rows.proofs.tables.StoredTables.set_peer_route.Given as goal
-
-abbrev pub ghosts-set_route_on : goal.ghosts-set_route_on
-ghosts-set_route_on a = record { name = a.blank.name; parts = a.blank.parts }

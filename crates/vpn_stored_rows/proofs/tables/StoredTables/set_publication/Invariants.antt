@@ -1,4 +1,0 @@
-use Rattle.vpn_stored_rows.proofs.tables.StoredTables.set_publication.Given as goal
-
-abbrev pub ghosts-set_publication_on : goal.ghosts-set_publication_on
-ghosts-set_publication_on a = record { name = a.blank.name; parts = a.blank.parts }

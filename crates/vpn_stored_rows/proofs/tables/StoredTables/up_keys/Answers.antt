@@ -1,7 +1,0 @@
-use Rattle.std.proofs.Common.{subst}
-use Rattle.node_model.specs.Paths.{Holdings}
-use Rattle.vpn_tables.specs.Gathered.{UsesAreInRange}
-use Rattle.vpn_stored_rows.proofs.tables.StoredTables.up_keys.Goals as goal
-
-pub returns-clause-in_range : goal.returns-clause-in_range
-returns-clause-in_range c = subst (λ (h : Holdings). UsesAreInRange h.feed) c.self.view_is c.up_keys.ensures.in_range

@@ -1,6 +1,0 @@
-use Rattle.std.proofs.Common.{◌≡◌, ◌++◌, map, drop}
-use Rattle.vpn_tables.specs.Gathered.{keyed}
-use Rattle.vpn_tables.proofs.gathered.entries_of.Given as goal
-
-abbrev pub invariant-loop-item : goal.invariant-loop-item
-invariant-loop-item g l = l.entries.items ++ map keyed (drop l.item-index l.items) ≡ map keyed l.items

@@ -1,9 +1,0 @@
-use Rattle.std.proofs.Common.{◌≡◌, ◌≤◌, ◌-◌, ◌++◌, length}
-use Rattle.vpn_tables.specs.Seats.{nothings}
-use Rattle.vpn_tables.proofs.sessions.push_at.Given as goal
-
-abbrev pub invariant-loop-between : goal.invariant-loop-between
-invariant-loop-between l = record {
-  so_far : l.peers.items ≡ l.fn.peers.items ++ nothings (l.between - length l.fn.peers.items);
-  past : length l.fn.peers.items ≤ l.between;
-}

@@ -1,5 +1,0 @@
-use Rattle.vpn_tables.proofs.Seating.{IsPast}
-use Rattle.vpn_tables.proofs.sessions.seat_at.Given as goal
-
-abbrev pub invariant-loop-index : goal.invariant-loop-index
-invariant-loop-index l = IsPast l.agents l.session l.index

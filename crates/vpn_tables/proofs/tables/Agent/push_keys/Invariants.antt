@@ -1,6 +1,0 @@
-use Rattle.std.proofs.Common.{◌≡◌, ◌++◌, map}
-use Rattle.vpn_tables.proofs.tables.Agent.push_keys.Given as goal
-
-abbrev pub invariant-loop-key : goal.invariant-loop-key
-invariant-loop-key l =
-    l.keys.items ++ map (λ e. e.0) l.key-iterator ≡ l.fn.keys.items ++ map (λ e. e.0) l.self.told

@@ -1,9 +1,0 @@
-use Rattle.std.proofs.Common.{◌≡◌}
-use Rattle.std.specs.List.{list_any}
-use Rattle.vpn_tables.specs.Indexed.{leads_label}
-use Rattle.vpn_tables.proofs.within.have_labels.Given as goal
-
-abbrev pub invariant-loop-at : goal.invariant-loop-at
-invariant-loop-at l =
-    list_any (leads_label l.tables l.imports l.subnet) l.at-iterator
-    ≡ list_any (leads_label l.tables l.imports l.subnet) l.labels.entries

@@ -1,0 +1,65 @@
+-- The rows that a change of an agent's address, or of an object, may change.
+use Rattle.std.specs.Prelude.{ℕ, List, [], ◌∷◌, ◌++◌, map, Bool, false, ◌==◌, nat_le, if◌then◌else◌}
+use Rattle.std.specs.declared.option.Option.{Option}
+use Rattle.std.specs.declared.option.Option.TheVariants.{Some, None}
+use Rattle.std.specs.List.{flat_map}
+use Rattle.ov_sync.specs.declared.Delta.TheVariants.{Drop}
+use Rattle.ov_types.specs.Prefix.{Block}
+use Rattle.ov_types.specs.declared.keys.UpKey.{UpKey}
+use Rattle.ov_types.specs.declared.keys.UpKey.TheVariants as Up
+use Rattle.ov_types.specs.declared.numbers.InstanceId.{InstanceId}
+use Rattle.ov_types.specs.declared.objects.LowKey.{LowKey}
+use Rattle.ov_types.specs.declared.objects.LowKey.TheVariants as key
+use Rattle.ov_types.specs.declared.objects.LowValue.{LowValue}
+use Rattle.route_targets.specs.Numbers.{hop_instance_of, target_of}
+use Rattle.node_model.specs.Maps.{object}
+use Rattle.node_model.specs.Paths.{Holdings}
+use Rattle.node_model.specs.Reaching.{below}
+use Rattle.node_model.specs.Uses.{Use, as_use, is_hop, use_of}
+use Rattle.vpn_holdings.specs.Gathered.{held_keys, keys_told, prefixes_told}
+use Rattle.vpn_holdings.specs.Listing.{told_in}
+use Rattle.vpn_holdings.specs.Moved.{targets_by_publication}
+use Rattle.vpn_holdings.specs.Touched.{rows_by_key, touched_rows}
+
+-- those of each publication of the agent of a session
+abbrev pub rows_by_agent : Holdings → ℕ → List (InstanceId × Block)
+rows_by_agent h session =
+    flat_map (λ k. rows_by_key h (targets_by_publication h session (Drop k)) k) (keys_told (told_in h.agents session))
+
+-- ---- an instance or a use
+-- the object by which an instance is known, and by which it imports
+abbrev pub object_of : InstanceId → LowKey
+object_of i = if is_hop i then key.ChainUse (use_of i) else key.Instance i.0
+
+-- the instances of an object: of a use as many places as one may have. There are 3072 numbers of uses
+abbrev pub instances_of : LowKey → List InstanceId
+instances_of (key.Instance n) = record { 0 = n } ∷ []
+instances_of (key.ChainUse u) = if nat_le u 3071 then map (hop_instance_of u) (below 16) else []
+instances_of _ = []
+
+abbrev pub is_of : LowKey → InstanceId → Bool
+is_of (key.Instance n) i = if is_hop i then false else i.0 == n
+is_of (key.ChainUse u) i = if is_hop i then use_of i == u else false
+is_of _ i = false
+
+-- the subnets of a use
+abbrev pub subnets_by : Option Use → List Block
+subnets_by None = []
+subnets_by (Some u) = u.left_subnets ++ u.right_subnets
+
+abbrev pub subnets_of : LowKey → Option LowValue → List Block
+subnets_of k None = []
+subnets_of k (Some v) = subnets_by (as_use k v)
+
+-- the rows of the instances of an object, for each prefix that something was told with, and each of some subnets
+abbrev pub own_rows : Holdings → LowKey → List Block → List (InstanceId × Block)
+own_rows h k subnets = flat_map (λ i. map (λ p. (i, p)) (prefixes_told h ++ subnets)) (instances_of k)
+
+-- those that publications in instances of the object touch
+abbrev pub rows_published : Holdings → LowKey → UpKey → List (InstanceId × Block)
+rows_published h k (Up.Publish i prefix) = if is_of k i then touched_rows h (target_of h.asn i ∷ []) prefix else []
+rows_published h k (Up.Subscribe i) = []
+
+abbrev pub rows_by_object : Holdings → LowKey → LowValue → List (InstanceId × Block)
+rows_by_object h k v =
+    own_rows h k (subnets_of k (object h.feed k) ++ subnets_of k (Some v)) ++ flat_map (rows_published h k) (held_keys h)
