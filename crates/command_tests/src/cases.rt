@@ -3,6 +3,7 @@
 use crate::ends::{Ends, WHOLE_ENDS};
 use crate::fault::CaseFault;
 use crate::inputs::Input;
+use crate::inspecting;
 use crate::telling::{Run, Telling, tell, tell_status};
 use ov_io::TextOut;
 use std::alloc::Global;
@@ -23,13 +24,16 @@ struct Case<'a> {
 ///
 /// A line is the words of the command, behind a bar the input, and behind `=>` the status and the lines. In place of the
 /// bar and the input, `of` names one that is made. Before the words, up to a colon, stands what is set for the run; where
-/// rows are told, what is wanted is a run with the same rows.
+/// rows are told, what is wanted is a run with the same rows. A line that begins with `inspect` is a run of it.
 pub(crate) fn holds(
     alloc: Global,
     line: &str,
     net: &mut Option<Net>,
     told: &mut TextOut,
 ) -> Result<bool, CaseFault> {
+    if let Some(run) = line.strip_prefix("inspect ") {
+        return inspecting::holds(alloc, run, told);
+    }
     let (given, wanted) = line.split_once(" => ").ok_or(CaseFault::Unreadable)?;
     if given == "no memory" {
         return is_number_of(Status::NoMemory, wanted.as_bytes(), told);
@@ -177,7 +181,7 @@ fn telling_of(word: &str) -> Result<Telling<'static>, CaseFault> {
     }
 }
 
-fn number_of(digits: &str) -> Result<usize, CaseFault> {
+pub(crate) fn number_of(digits: &str) -> Result<usize, CaseFault> {
     match digits.parse() {
         Ok(number) => Ok(number),
         Err(_) => Err(CaseFault::Unreadable),

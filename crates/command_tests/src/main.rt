@@ -1,11 +1,12 @@
-//! Runs of commands over memory. Each line of standard input has one, with what is wanted of it; those that come to something
-//! else are printed, and then how many come to what is wanted.
+//! Runs of commands of `overlay` and of `inspect` over memory. Each line of standard input has one, with what is wanted of it;
+//! those that come to something else are printed, and then how many come to what is wanted.
 #![tactic(auto)]
 
 mod cases;
 mod ends;
 mod fault;
 mod inputs;
+mod inspecting;
 mod networks;
 mod telling;
 

@@ -50,7 +50,7 @@ pub(crate) fn tell(
 }
 
 /// The words of a command. A blank in a word is spelled `\s`.
-fn words_of(alloc: Global, command: &str) -> Result<Vec<String>, CaseFault> {
+pub(crate) fn words_of(alloc: Global, command: &str) -> Result<Vec<String>, CaseFault> {
     let mut words = Vec::new(alloc);
     for word in command.split_whitespace() {
         words.push(word.replace(alloc, "\\s", " ")?)?;
@@ -102,7 +102,7 @@ fn lines_in(text: &[u8]) -> usize {
 }
 
 /// The last line ends as each does.
-fn push_lines(text: &[u8], out: &mut TextOut) -> Result<(), CaseFault> {
+pub(crate) fn push_lines(text: &[u8], out: &mut TextOut) -> Result<(), CaseFault> {
     let lines = match text.split_last() {
         None => return Ok(()),
         Some((b'\n', lines)) => lines,
