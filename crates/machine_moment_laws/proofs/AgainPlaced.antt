@@ -19,8 +19,8 @@ use Rattle.machine_model.specs.Events.{MachineEvent, after, event_of}
 use Rattle.machine_laws.specs.Headline.{IsOfForm, IsWritten}
 use Rattle.machine_laws.specs.Refusing.{TiedNetwork, after_tied, kept_events, next_tied, refuses, tied_start}
 use Rattle.machine_laws.proofs.Refused.{keeps_what_is_not_refused}
-use Rattle.machine_moment_laws.specs.RunningModel.Stands.{message_size}
-use Rattle.machine_moment_laws.proofs.RunningModel.Sizes.{positive}
+use Rattle.machine_moment_laws.specs.RunningNodes.Stands.{message_size}
+use Rattle.machine_moment_laws.proofs.RunningNodes.Sizes.{positive}
 use Rattle.machine_moment_laws.specs.Runs.{answer_tied, answers, run_tied, tied_moment}
 use Rattle.machine_moment_laws.proofs.AsCompiled.{edits_of_form, forms_of_front}
 use Rattle.machine_moment_laws.proofs.TiesKept.{asked_of_kept, kept, kept_from, same_moment, stepped}

@@ -43,8 +43,8 @@ use Rattle.machine_laws.specs.Headline.{IsOfForm, IsWritten}
 use Rattle.machine_laws.proofs.Configured.{agents_show_rows, control_nodes_show_tables}
 use Rattle.machine_laws.proofs.Delivers.{found, written_delivers}
 use Rattle.machine_laws.proofs.Written.{compiled_now, none_broken, written_now, written_settle_settles}
-use Rattle.running_model.specs.Stands.{message_size, moment}
-use Rattle.running_model.proofs.Sizes.{positive}
+use Rattle.running_nodes.specs.Stands.{message_size, moment}
+use Rattle.running_nodes.proofs.Sizes.{positive}
 use Rattle.reach_plain.specs.Reachability.{reachability}
 use Rattle.reach_plain.proofs.Once.{passed_once}
 use Rattle.machine_moment_laws.specs.Compiled.{AnswersCompiled, AreAsCompiled, PassesEachOnce, StandsAt, answers}

@@ -4,7 +4,7 @@ mod Promising
 pub mod TiesKept
 pub mod TiedMoments
 pub mod SchedulePlaced
-pub mod RunningModel
+pub mod RunningNodes
 pub mod SoFar
 pub mod LowStood
 pub mod ImportsStood

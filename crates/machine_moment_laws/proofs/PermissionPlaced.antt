@@ -14,9 +14,9 @@ use Rattle.machine_model.specs.Setup.{opening}
 use Rattle.machine_model.specs.Events.{event_of}
 use Rattle.machine_laws.specs.Headline.{IsWritten}
 use Rattle.machine_laws.specs.Refusing.{TiedNetwork, after_tied, next_tied, tied_start}
-use Rattle.machine_moment_laws.specs.RunningModel.Stands.{message_size}
+use Rattle.machine_moment_laws.specs.RunningNodes.Stands.{message_size}
 use Rattle.machine_moment_laws.specs.Runs.{answer_tied, answers, configs_so_far, run_tied, tied_moment}
-use Rattle.machine_moment_laws.proofs.RunningModel.Sizes.{positive}
+use Rattle.machine_moment_laws.proofs.RunningNodes.Sizes.{positive}
 use Rattle.machine_moment_laws.proofs.AsCompiled.{forms_of_front}
 use Rattle.machine_moment_laws.proofs.TiesKept.{asked_with_ties}
 use Rattle.machine_moment_laws.specs.Permission.{OfEachPacket, PassesAsPermitted}

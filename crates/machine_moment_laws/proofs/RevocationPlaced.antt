@@ -18,8 +18,8 @@ use Rattle.machine_model.specs.Events.{MachineEvent, Edits, Deliver, DeliverOcte
 use Rattle.machine_model.specs.Rounds.{is_unbroken}
 use Rattle.machine_laws.specs.Headline.{IsWritten}
 use Rattle.machine_laws.specs.Refusing.{TiedNetwork, after_tied, next_tied, tied_start}
-use Rattle.machine_moment_laws.specs.RunningModel.Stands.{message_size}
-use Rattle.machine_moment_laws.proofs.RunningModel.Sizes.{positive}
+use Rattle.machine_moment_laws.specs.RunningNodes.Stands.{message_size}
+use Rattle.machine_moment_laws.proofs.RunningNodes.Sizes.{positive}
 use Rattle.machine_moment_laws.specs.Runs.{answer_tied, answers, run_tied, tied_moment}
 use Rattle.machine_moment_laws.proofs.AsCompiled.{forms_of_front}
 use Rattle.machine_moment_laws.proofs.TiesKept.{asked_of_kept, kept, same_moment}

@@ -10,7 +10,7 @@ use Rattle.config_check.specs.Checked.{Checked}
 use Rattle.machine_laws.specs.Headline.{IsWritten}
 use Rattle.machine_laws.specs.MachineModel.Events.{event_of}
 use Rattle.machine_laws.specs.MachineModel.Setup.{opening}
-use Rattle.running_model.specs.Stands.{message_size}
+use Rattle.running_nodes.specs.Stands.{message_size}
 use Rattle.machine_moment_laws.proofs.AsCompiled.{forms_of_front}
 use Rattle.schedule_script.specs.declared.tied_answer.TiedAnswer.{TiedAnswer}
 use Rattle.machine_laws.specs.Refusing.{TiedNetwork, after_tied, next_tied, tied_start}

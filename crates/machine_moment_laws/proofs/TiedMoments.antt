@@ -23,8 +23,8 @@ use Rattle.machine_laws.specs.MachineModel.Events.{Settle, answer_to, event_of, 
 use Rattle.machine_laws.specs.MachineModel.Network.{MachineState}
 use Rattle.machine_laws.specs.MachineModel.Setup.{checked, opening}
 use Rattle.machine_laws.specs.MachineModel.Steps.{is_settled, settle}
-use Rattle.running_model.specs.Stands.{message_size}
-use Rattle.running_model.proofs.Sizes.{positive}
+use Rattle.running_nodes.specs.Stands.{message_size}
+use Rattle.running_nodes.proofs.Sizes.{positive}
 use Rattle.schedule_script.specs.declared.answer.Answer.{Answer}
 use Rattle.schedule_script.specs.declared.answer.Answer.TheVariants.{Rounds, Traced}
 use Rattle.machine_moment_laws.specs.Compiled.{AnswersCompiled}

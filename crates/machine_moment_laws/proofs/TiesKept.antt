@@ -12,7 +12,7 @@ use Rattle.machine_laws.specs.MachineModel.Events.{MachineEvent, Edits, Deliver,
 use Rattle.machine_laws.specs.MachineModel.Moments.{EditsAreValid}
 use Rattle.machine_laws.specs.MachineModel.Network.{start}
 use Rattle.machine_laws.specs.MachineModel.Setup.{Setup, edited, opening}
-use Rattle.running_model.specs.Stands.{message_size, moment}
+use Rattle.running_nodes.specs.Stands.{message_size, moment}
 use Rattle.machine_laws.specs.Headline.{IsOfForm, IsWritten}
 use Rattle.machine_moment_laws.proofs.AsCompiled.{edits_of_form}
 use Rattle.machine_laws.specs.Refusing.{TiedNetwork, after_tied, breaks, kept_events, next_tied, refuses, tied_start}

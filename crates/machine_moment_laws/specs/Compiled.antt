@@ -20,7 +20,7 @@ use Rattle.machine_laws.specs.MachineModel.Setup.{checked}
 use Rattle.machine_laws.specs.MachineModel.Network.{start}
 use Rattle.machine_laws.specs.MachineModel.Steps.{is_settled}
 use Rattle.machine_laws.specs.MachineModel.Events.{event_of, run}
-use Rattle.running_model.specs.Stands.{message_size, moment}
+use Rattle.running_nodes.specs.Stands.{message_size, moment}
 use Rattle.machine_moment_laws.specs.Ends.{SettlesAtOnce}
 
 -- what the events of a schedule answer, from a network that is empty

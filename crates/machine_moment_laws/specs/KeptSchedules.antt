@@ -14,7 +14,7 @@ use Rattle.schedule_script.specs.declared.tied_answer.TiedAnswer.TheVariants.{An
 use Rattle.machine_model.specs.Events.{event_of}
 use Rattle.machine_laws.specs.Refusing.{kept_events}
 use Rattle.machine_moment_laws.specs.Isolated.{StandsAt}
-use Rattle.machine_moment_laws.specs.RunningModel.Stands.{message_size}
+use Rattle.machine_moment_laws.specs.RunningNodes.Stands.{message_size}
 use Rattle.machine_moment_laws.specs.Runs.{tied_moment}
 use Rattle.hitless_cells.specs.Keeping.{Keep}
 use Rattle.hitless_cells.specs.Ways.{Way}

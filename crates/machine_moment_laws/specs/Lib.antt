@@ -4,7 +4,7 @@ pub mod Compiled
 pub mod Runs
 pub mod Isolated
 pub mod TiedCompiled
-pub mod RunningModel
+pub mod RunningNodes
 pub mod Permission
 pub mod PermissionSchedules
 pub mod Revocation

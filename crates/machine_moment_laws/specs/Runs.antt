@@ -15,7 +15,7 @@ use Rattle.machine_laws.specs.MachineModel.Events.{MachineEvent, Edits, answer_t
 use Rattle.machine_laws.specs.MachineModel.Network.{start}
 use Rattle.machine_laws.specs.MachineModel.Session.{Message}
 use Rattle.machine_laws.specs.MachineModel.Setup.{Name, Setup, checked, edited}
-use Rattle.running_model.specs.Stands.{message_size}
+use Rattle.running_nodes.specs.Stands.{message_size}
 use Rattle.machine_laws.specs.Refusing.{TiedNetwork, after_tied, kept_events, next_tied, tied_start}
 use Rattle.machine_laws.specs.Running.{configs}
 

@@ -12,7 +12,7 @@ ghost use Rattle.config_types.specs.declared.event.Event.TheVariants.{Settle, Sh
 ghost use Rattle.config_types.specs.declared.topology.Node.{Node};
 ghost use Rattle.config_check.specs.Checked.{Checked};
 ghost use Rattle.machine_laws.specs.Moments.{SettlesInTime};
-ghost use Rattle.running_model.specs.Stands.{moment};
+ghost use Rattle.running_nodes.specs.Stands.{moment};
 ghost use Rattle.machine_laws.specs.Settling.{SettlesIn};
 ghost use Rattle.machine_laws.specs.MachineModel.Network.{MachineState};
 ghost use Rattle.machine_laws.specs.MachineModel.Session.{Message};

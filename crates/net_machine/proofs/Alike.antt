@@ -6,10 +6,10 @@ use Rattle.std.proofs.Common.{refl, sym, ◌∙◌, ap, subst, arith, inl, inr}
 use Rattle.std.proofs.lemmas.Bool.{cases_eq}
 use Rattle.ov_types.specs.First.{same_name}
 use Rattle.running_nodes.specs.MachineModel.Setup.{Name}
-use Rattle.running_nodes.specs.RunningModel.Seats.{Seat, far_of, index_from, is_down_at, live_at, name_of, seat, seat_named}
-use Rattle.running_nodes.specs.RunningModel.Stands.{IsLong}
-use Rattle.running_nodes.specs.RunningModel.Steps.{cleared, cleared_at, cleared_from, told_of_loss, with_link, with_notice, with_seat}
-use Rattle.running_nodes.specs.RunningModel.SessionPlace.{SessionPlace}
+use Rattle.running_nodes.specs.Seats.{Seat, far_of, index_from, is_down_at, live_at, name_of, seat, seat_named}
+use Rattle.running_nodes.specs.Stands.{IsLong}
+use Rattle.running_nodes.specs.Steps.{cleared, cleared_at, cleared_from, told_of_loss, with_link, with_notice, with_seat}
+use Rattle.running_nodes.specs.declared.place.SessionPlace.{SessionPlace}
 use Rattle.running_laws.proofs.FirstPlaces.{map_twice}
 use Rattle.running_laws.proofs.Lists.{AreAlike, index_map, same_who, with_alike}
 use Rattle.net_machine.specs.Seating.{AreLong}

@@ -11,8 +11,8 @@ use Rattle.config_types.specs.declared.edit.Object.TheVariants as objects
 use Rattle.config_types.specs.declared.topology.Node.{Node}
 use Rattle.config_types.specs.declared.topology.Topology.{Topology}
 use Rattle.running_nodes.specs.MachineModel.Setup.{Move, Name, listed_by, put_moves, stands}
-use Rattle.running_nodes.specs.RunningModel.Moving.{Moves, MovesIf}
-use Rattle.running_nodes.specs.RunningModel.Seats.{Configuring, Seat, seat}
+use Rattle.running_nodes.specs.Moving.{Moves, MovesIf}
+use Rattle.running_nodes.specs.Seats.{Configuring, Seat, seat}
 use Rattle.net_machine.specs.declared.editing.Moved.{Moved}
 use Rattle.net_machine.specs.declared.editing.Moved.TheVariants.{Yes, No}
 use Rattle.net_machine.specs.declared.ends.SessionEnds.{SessionEnds}

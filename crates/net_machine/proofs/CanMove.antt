@@ -34,12 +34,12 @@ use Rattle.running_nodes.proofs.MachineModel.Changing.{MoverIs, Moves, renews}
 use Rattle.running_nodes.proofs.MachineModel.Distinct.{Apart, apart_of}
 use Rattle.node_model.specs.Members.{Member}
 use Rattle.node_model.proofs.Members.{any_in, contains_of, from_map, none_some}
-use Rattle.running_nodes.specs.RunningModel.Controls.{Controls, first_agent}
-use Rattle.running_nodes.specs.RunningModel.Seats.{Who, Controlling, Forwarding, Seat, agent_plan, control_plan}
-use Rattle.running_nodes.specs.RunningModel.Seats.{name_of, name_there, names_of, nobody, other, others_of, place_at, place_of, role_of, seat}
-use Rattle.running_nodes.specs.RunningModel.Seats.{seat_named, session_with, whos}
-use Rattle.running_nodes.specs.RunningModel.SessionPlace.{SessionPlace}
-use Rattle.running_nodes.specs.RunningModel.Stands.{StandsFor}
+use Rattle.running_nodes.specs.Controls.{Controls, first_agent}
+use Rattle.running_nodes.specs.Seats.{Who, Controlling, Forwarding, Seat, agent_plan, control_plan}
+use Rattle.running_nodes.specs.Seats.{name_of, name_there, names_of, nobody, other, others_of, place_at, place_of, role_of, seat}
+use Rattle.running_nodes.specs.Seats.{seat_named, session_with, whos}
+use Rattle.running_nodes.specs.declared.place.SessionPlace.{SessionPlace}
+use Rattle.running_nodes.specs.Stands.{StandsFor}
 use Rattle.running_nodes.specs.Fresh.{IsSetUp}
 use Rattle.running_nodes.proofs.SetUp.{set_up}
 use Rattle.running_laws.proofs.Lists.{who_at}

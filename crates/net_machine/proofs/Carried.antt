@@ -6,9 +6,9 @@ use Rattle.std.specs.declared.option.Option.TheVariants.{Some, None}
 use Rattle.std.proofs.Common.{refl, sym, subst, arith}
 use Rattle.ov_link.specs.declared.step.Input.{Input}
 use Rattle.running_nodes.specs.MachineModel.Setup.{Name}
-use Rattle.running_nodes.specs.RunningModel.Seats.{Seat, far_of, kept_at, link_at, live_at, notice_at, place_of}
-use Rattle.running_nodes.specs.RunningModel.Steps.{cleared, untaken, with_link, with_notice, with_seat}
-use Rattle.running_nodes.specs.RunningModel.SessionPlace.{SessionPlace}
+use Rattle.running_nodes.specs.Seats.{Seat, far_of, kept_at, link_at, live_at, notice_at, place_of}
+use Rattle.running_nodes.specs.Steps.{cleared, untaken, with_link, with_notice, with_seat}
+use Rattle.running_nodes.specs.declared.place.SessionPlace.{SessionPlace}
 use Rattle.net_machine.specs.declared.ends.SessionEnds.{SessionEnds}
 use Rattle.net_machine.specs.declared.round.Due.{Due}
 use Rattle.net_machine.specs.Connections.{Connects, ConnectsIf, OpensFar, OpensSecond, goes_on, may_connect}

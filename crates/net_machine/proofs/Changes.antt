@@ -9,11 +9,11 @@ use Rattle.ov_link.specs.Breaks.{with_break}
 use Rattle.ov_link.specs.declared.step.Input.{Input}
 use Rattle.node_core.specs.Whole.{session_of}
 use Rattle.node_model.specs.Step.{nothing}
-use Rattle.running_nodes.specs.RunningModel.Seats.{Seat, breaks_at, far_of, is_down_at, live_at, name_of, others_of, seat}
-use Rattle.running_nodes.specs.RunningModel.Stands.{IsLong}
-use Rattle.running_nodes.specs.RunningModel.Steps.{Takes, cleared, cleared_at, cleared_from, emptied, told_of_loss, unbroken, with_break_at}
-use Rattle.running_nodes.specs.RunningModel.Steps.{with_link, with_notice, with_seat}
-use Rattle.running_nodes.specs.RunningModel.SessionPlace.{SessionPlace}
+use Rattle.running_nodes.specs.Seats.{Seat, breaks_at, far_of, is_down_at, live_at, name_of, others_of, seat}
+use Rattle.running_nodes.specs.Stands.{IsLong}
+use Rattle.running_nodes.specs.Steps.{Takes, cleared, cleared_at, cleared_from, emptied, told_of_loss, unbroken, with_break_at}
+use Rattle.running_nodes.specs.Steps.{with_link, with_notice, with_seat}
+use Rattle.running_nodes.specs.declared.place.SessionPlace.{SessionPlace}
 use Rattle.net_machine.specs.Connections.{Opens}
 use Rattle.net_machine.specs.Seating.{AreLong, Keeps}
 use Rattle.net_machine.proofs.Kept.{far_kept, keeps_all, keeps_both, with_keeps}

@@ -15,12 +15,12 @@ use Rattle.config_types.specs.declared.topology.Node.{Node}
 use Rattle.config_types.specs.declared.topology.Topology.{Topology}
 use Rattle.running_nodes.specs.ControlNode.Agents.{put_at}
 use Rattle.running_nodes.specs.MachineModel.Setup.{Name, id_of, is_listed, lists, with_agent}
-use Rattle.running_nodes.specs.RunningModel.Controls.{Controls, first_agent}
-use Rattle.running_nodes.specs.RunningModel.Moving.{came, is_listed_who, joined, joined_at, joined_by, number_in}
-use Rattle.running_nodes.specs.RunningModel.Seats.{Who, Configuring, Controlling, Forwarding, Seat, name_there, names_of, nobody, others_of}
-use Rattle.running_nodes.specs.RunningModel.Seats.{seat}
-use Rattle.running_nodes.specs.RunningModel.Stands.{IsLong}
-use Rattle.running_nodes.specs.RunningModel.Steps.{with_seat}
+use Rattle.running_nodes.specs.Controls.{Controls, first_agent}
+use Rattle.running_nodes.specs.Moving.{came, is_listed_who, joined, joined_at, joined_by, number_in}
+use Rattle.running_nodes.specs.Seats.{Who, Configuring, Controlling, Forwarding, Seat, name_there, names_of, nobody, others_of}
+use Rattle.running_nodes.specs.Seats.{seat}
+use Rattle.running_nodes.specs.Stands.{IsLong}
+use Rattle.running_nodes.specs.Steps.{with_seat}
 use Rattle.net_machine.specs.Moving.{HasControls, HasRoom, came_seat, control_name}
 use Rattle.net_machine.specs.Seating.{AreLong}
 use Rattle.net_machine.proofs.Kept.{with_count, with_here, with_there}

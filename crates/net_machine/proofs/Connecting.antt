@@ -11,8 +11,8 @@ use Rattle.running_nodes.specs.MachineModel.Steps.{connect_all, connect_if, join
 use Rattle.running_nodes.specs.MachineModel.Events.{Connect, is_earlier, next}
 use Rattle.running_nodes.specs.MachineModel.Moments.{NodePair, nodes}
 use Rattle.running_nodes.proofs.MachineModel.NodesFact.{connect_if_nodes}
-use Rattle.running_nodes.specs.RunningModel.Seats.{Seat}
-use Rattle.running_nodes.specs.RunningModel.Stands.{message_size}
+use Rattle.running_nodes.specs.Seats.{Seat}
+use Rattle.running_nodes.specs.Stands.{message_size}
 use Rattle.net_machine.specs.declared.ends.SessionEnds.{SessionEnds}
 use Rattle.net_machine.specs.Connections.{Connects, ConnectsAll}
 use Rattle.net_machine.specs.Seating.{Keeps, ends_of, order_among}

@@ -12,7 +12,7 @@ use Rattle.node_model.specs.Paths.{Holdings}
 use Rattle.node_model.specs.Step.{Post}
 use Rattle.node_model.proofs.Members.{any_in, from_any, in_map, none_some}
 use Rattle.running_nodes.specs.ControlNode.Core.{Core, holdings}
-use Rattle.running_nodes.specs.RunningModel.Controls.{Controls}
+use Rattle.running_nodes.specs.Controls.{Controls}
 use Rattle.node_laws.specs.Quiet.{SameButQuiet}
 use Rattle.running_nodes.specs.MachineModel.Network.{MachineState, config}
 use Rattle.running_nodes.specs.MachineModel.Setup.{Name, checked}
@@ -20,9 +20,9 @@ use Rattle.running_nodes.proofs.MachineModel.Apart.{NamesApart}
 use Rattle.running_laws.specs.MachineLaws.Setups.{IsNamed}
 use Rattle.running_laws.proofs.MachineLaws.KindNames.{apart_names}
 use Rattle.running_laws.specs.MachineLaws.Headline.{IsWritten}
-use Rattle.running_nodes.specs.RunningModel.Seats.{Configuring, Controlling, Forwarding, Seat, Who, agent_plan, control_plan, name_of, seat}
-use Rattle.running_nodes.specs.RunningModel.Seats.{seat_named}
-use Rattle.running_nodes.specs.RunningModel.Stands.{StandsFor}
+use Rattle.running_nodes.specs.Seats.{Configuring, Controlling, Forwarding, Seat, Who, agent_plan, control_plan, name_of, seat}
+use Rattle.running_nodes.specs.Seats.{seat_named}
+use Rattle.running_nodes.specs.Stands.{StandsFor}
 use Rattle.running_nodes.specs.Cores.{HoldsAs, held_by, present}
 use Rattle.running_laws.specs.Wiring.{HasNumbers, HasSessions}
 use Rattle.running_laws.proofs.PostEnds.{Ends, seat_ends}

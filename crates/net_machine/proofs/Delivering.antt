@@ -9,8 +9,8 @@ use Rattle.running_nodes.specs.MachineModel.Session.{Session}
 use Rattle.running_nodes.specs.MachineModel.Network.{MachineState}
 use Rattle.running_nodes.specs.MachineModel.Steps.{Due as Waiting, deliver, deliver_all, deliver_due, notice_stands, repeat}
 use Rattle.running_nodes.specs.MachineModel.Events.{Deliver, DeliverOctets, next}
-use Rattle.running_nodes.specs.RunningModel.Seats.{Seat, notice_at}
-use Rattle.running_nodes.specs.RunningModel.Stands.{message_size}
+use Rattle.running_nodes.specs.Seats.{Seat, notice_at}
+use Rattle.running_nodes.specs.Stands.{message_size}
 use Rattle.net_machine.specs.declared.ends.SessionEnds.{SessionEnds}
 use Rattle.net_machine.specs.declared.round.Due.{Due}
 use Rattle.net_machine.specs.Deliveries.{Delivers, DeliversMany, DeliversOctets}

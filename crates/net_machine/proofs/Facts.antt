@@ -15,9 +15,9 @@ use Rattle.running_nodes.specs.MachineModel.Steps.{connect_if, deliver, deliver_
 use Rattle.running_nodes.specs.MachineModel.Events as events
 use Rattle.running_nodes.specs.MachineModel.Events.{MachineEvent, Break, DeliverOctets, Edits as Changes, Lose, Restart, forwarders, is_node}
 use Rattle.running_nodes.specs.MachineModel.Events.{next, shown}
-use Rattle.running_nodes.specs.RunningModel.Seats.{Seat, notice_at, seat, seat_named}
-use Rattle.running_nodes.specs.RunningModel.Stands.{StandsFor, message_size}
-use Rattle.running_nodes.specs.RunningModel.Steps.{forwarders_of, shown_by, unbroken as unbroken_seat, with_break_at}
+use Rattle.running_nodes.specs.Seats.{Seat, notice_at, seat, seat_named}
+use Rattle.running_nodes.specs.Stands.{StandsFor, message_size}
+use Rattle.running_nodes.specs.Steps.{forwarders_of, shown_by, unbroken as unbroken_seat, with_break_at}
 use Rattle.running_laws.specs.Moments.{unbroken}
 use Rattle.net_machine.specs.declared.ends.SessionEnds.{SessionEnds}
 use Rattle.net_machine.specs.Connections.{Connects, may_connect}

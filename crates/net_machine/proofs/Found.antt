@@ -21,7 +21,7 @@ use Rattle.schedule_script.specs.declared.edits.TiedFault.TheVariants as faults
 use Rattle.running_laws.specs.MachineLaws.Running.{ties_with}
 use Rattle.running_nodes.specs.MachineModel.Events.{edit_answer}
 use Rattle.running_nodes.specs.MachineModel.Setup.{edited_without, moves, opening}
-use Rattle.running_nodes.specs.RunningModel.Seats.{Configuring, Seat, Who, seat}
+use Rattle.running_nodes.specs.Seats.{Configuring, Seat, Who, seat}
 use Rattle.running_laws.specs.Editing.{MakesEdit}
 use Rattle.schedule_script.specs.declared.answer.Answer.TheVariants.{Did, EditRefused}
 use Rattle.schedule_script.specs.declared.tied_answer.TiedAnswer.TheVariants.{Answered, EditTied}

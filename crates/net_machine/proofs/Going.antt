@@ -2,13 +2,13 @@
 use Rattle.std.specs.Prelude.{◌≡◌, ◌+◌, ◌-◌, ◌<◌, ◌≤◌, ℕ, zero, suc, List, [], ◌∷◌, length, drop, Bool, true, false, cond, MatchBool}
 use Rattle.std.proofs.Common.{refl, sym, ap, subst, arith, get_or}
 use Rattle.std.proofs.lemmas.List.{at_drop_more, drop_all}
-use Rattle.running_nodes.specs.RunningModel.Seats.{Seat, link_at, live_at, notice_at}
+use Rattle.running_nodes.specs.Seats.{Seat, link_at, live_at, notice_at}
 use Rattle.net_machine.specs.declared.ends.SessionEnds.{SessionEnds}
 use Rattle.net_machine.specs.declared.round.Due.{Due}
 use Rattle.net_machine.specs.Connections.{Connects, ConnectsAll}
 use Rattle.net_machine.specs.Deliveries.{Delivers, DeliversIf, DeliversMany, DeliversTo}
 use Rattle.running_laws.specs.Losing.{all_told}
-use Rattle.running_nodes.specs.RunningModel.Steps.{cleared_from}
+use Rattle.running_nodes.specs.Steps.{cleared_from}
 use Rattle.net_machine.specs.Rounds.{DeliversAll, DeliversDue, DeliversDues, IsRound}
 use Rattle.net_machine.specs.Seating.{waiting}
 use Rattle.net_machine.specs.Settling.{RoundsFrom, is_quiet}

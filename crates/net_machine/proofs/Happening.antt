@@ -23,8 +23,8 @@ use Rattle.running_nodes.specs.MachineModel.Events as events
 use Rattle.running_nodes.specs.MachineModel.Events.{Break, Connect, Deliver, DeliverOctets, Edits as Changes, Lose, Restart}
 use Rattle.running_nodes.specs.MachineModel.Events.{add_break, answer_to, edit_answer}
 use Rattle.running_nodes.specs.MachineModel.Events.{event_of, is_node, lose, next, shown, unless}
-use Rattle.running_nodes.specs.RunningModel.Seats.{Seat, seat_named}
-use Rattle.running_nodes.specs.RunningModel.Stands.{message_size}
+use Rattle.running_nodes.specs.Seats.{Seat, seat_named}
+use Rattle.running_nodes.specs.Stands.{message_size}
 use Rattle.net_machine.specs.declared.ends.SessionEnds.{SessionEnds}
 use Rattle.net_machine.specs.Connections.{Connects}
 use Rattle.net_machine.specs.Happenings.{BreaksOn, ConnectsOn, DeliversOctetsOn, DeliversOn, EditsUnless, Happens, LosesOn}

@@ -26,12 +26,12 @@ use Rattle.running_nodes.proofs.MachineModel.NetworkFact.{found}
 use Rattle.running_nodes.proofs.MachineModel.Twins.{itself}
 use Rattle.running_nodes.specs.MachineModel.Moments.{EditIsValid}
 use Rattle.running_laws.specs.MachineLaws.Headline.{IsOfForm}
-use Rattle.running_nodes.specs.RunningModel.Seats.{Seat, is_down_at, is_live, kept_at, link_at, live_at, name_of, notice_at, seat}
-use Rattle.running_nodes.specs.RunningModel.Seats.{seat_named}
-use Rattle.running_nodes.specs.RunningModel.Seats.{whole_at, whole_there}
-use Rattle.running_nodes.specs.RunningModel.Steps.{Takes, cleared, shown_by, untaken, with_link, with_notice, with_seat}
-use Rattle.running_nodes.specs.RunningModel.Stands.{StandsFor, message_size}
-use Rattle.running_nodes.specs.RunningModel.SessionPlace.{SessionPlace}
+use Rattle.running_nodes.specs.Seats.{Seat, is_down_at, is_live, kept_at, link_at, live_at, name_of, notice_at, seat}
+use Rattle.running_nodes.specs.Seats.{seat_named}
+use Rattle.running_nodes.specs.Seats.{whole_at, whole_there}
+use Rattle.running_nodes.specs.Steps.{Takes, cleared, shown_by, untaken, with_link, with_notice, with_seat}
+use Rattle.running_nodes.specs.Stands.{StandsFor, message_size}
+use Rattle.running_nodes.specs.declared.place.SessionPlace.{SessionPlace}
 use Rattle.running_laws.specs.Moments.{IsMoment}
 use Rattle.running_laws.proofs.Moments.{moment_next, moment_numbers, moment_sessions, moment_written}
 use Rattle.running_laws.specs.Wiring.{name_at, other_at}

@@ -18,9 +18,9 @@ use Rattle.running_nodes.proofs.MachineModel.Apart.{no_twins}
 use Rattle.running_nodes.proofs.MachineModel.NetworkFact.{found}
 use Rattle.running_nodes.proofs.MachineModel.SessionFact.{Fact, Fact-turned, live_receiver}
 use Rattle.running_nodes.proofs.MachineModel.Twins.{Found, NoTwins, found_each}
-use Rattle.running_nodes.specs.RunningModel.Seats.{Seat, far_of, place_of, whole_at, whole_there}
-use Rattle.running_nodes.specs.RunningModel.Stands.{StandsFor, message_size}
-use Rattle.running_nodes.specs.RunningModel.SessionPlace.{SessionPlace}
+use Rattle.running_nodes.specs.Seats.{Seat, far_of, place_of, whole_at, whole_there}
+use Rattle.running_nodes.specs.Stands.{StandsFor, message_size}
+use Rattle.running_nodes.specs.declared.place.SessionPlace.{SessionPlace}
 use Rattle.running_laws.specs.Moments.{IsMoment}
 use Rattle.running_laws.proofs.Moments.{moment_numbers, moment_sessions, moment_sound, moment_written}
 use Rattle.running_laws.specs.Wiring.{AreSeats, HasNumbers, HasSessions, IsFound}

@@ -8,13 +8,13 @@ use Rattle.std.proofs.Common.{refl, sym, ◌∙◌, ap, subst, arith, get_or}
 use Rattle.std.proofs.lemmas.List.{at_drop_more, drop_all, length-append, length-map, length-set, map-set, set-get_or}
 use Rattle.std.proofs.lemmas.Option.{same_Some}
 use Rattle.running_nodes.specs.MachineModel.Setup.{Name, without_agent}
-use Rattle.running_nodes.specs.RunningModel.Controls.{Controls}
-use Rattle.running_nodes.specs.RunningModel.Moving.{left_all, left_at, retired_of, vacated, vacated_from}
-use Rattle.running_nodes.specs.RunningModel.Seats.{Who, Configuring, Controlling, Forwarding, Seat, name_of, name_there, names_of, nobody}
-use Rattle.running_nodes.specs.RunningModel.Seats.{index_from, is_name, others_of, place_at, place_of, seat, seat_named, session_with}
-use Rattle.running_nodes.specs.RunningModel.Stands.{IsLong}
-use Rattle.running_nodes.specs.RunningModel.Steps.{with_seat}
-use Rattle.running_nodes.specs.RunningModel.SessionPlace.{SessionPlace}
+use Rattle.running_nodes.specs.Controls.{Controls}
+use Rattle.running_nodes.specs.Moving.{left_all, left_at, retired_of, vacated, vacated_from}
+use Rattle.running_nodes.specs.Seats.{Who, Configuring, Controlling, Forwarding, Seat, name_of, name_there, names_of, nobody}
+use Rattle.running_nodes.specs.Seats.{index_from, is_name, others_of, place_at, place_of, seat, seat_named, session_with}
+use Rattle.running_nodes.specs.Stands.{IsLong}
+use Rattle.running_nodes.specs.Steps.{with_seat}
+use Rattle.running_nodes.specs.declared.place.SessionPlace.{SessionPlace}
 use Rattle.net_machine.specs.Moving.{AreLeft, Differ, HasAgent, IsAgentPlace}
 use Rattle.net_machine.specs.Seating.{AreLong}
 use Rattle.net_machine.proofs.Alike.{long_with, named_by_names}

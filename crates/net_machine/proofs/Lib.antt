@@ -33,7 +33,7 @@ pub mod CanMove
 pub mod Ran
 pub mod ControlNodes
 pub mod RunningLaws
-pub mod RunningModel
+pub mod RunningNodes
 pub mod MachineLaws
 pub mod Taking
 pub mod MachineMomentLaws

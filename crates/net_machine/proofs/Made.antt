@@ -11,9 +11,9 @@ use Rattle.config_types.specs.declared.edit.Object.TheVariants as objects
 use Rattle.config_types.specs.declared.edit.ObjectKind.TheVariants as kinds
 use Rattle.config_types.specs.declared.topology.Topology.{Topology}
 use Rattle.running_nodes.specs.MachineModel.Setup.{Move, moves}
-use Rattle.running_nodes.specs.RunningModel.Moving.{MovesIf}
-use Rattle.running_nodes.specs.RunningModel.Seats.{Who, Configuring, Seat, name_of, names_of, others_of, seat}
-use Rattle.running_nodes.specs.RunningModel.Steps.{Configures, cleared, with_seat}
+use Rattle.running_nodes.specs.Moving.{MovesIf}
+use Rattle.running_nodes.specs.Seats.{Who, Configuring, Seat, name_of, names_of, others_of, seat}
+use Rattle.running_nodes.specs.Steps.{Configures, cleared, with_seat}
 use Rattle.running_laws.specs.Editing.{MakesEdit}
 use Rattle.running_laws.proofs.Lists.{same_who}
 use Rattle.net_machine.specs.Moving.{CanMoveIf}

@@ -16,15 +16,15 @@ use Rattle.config_types.specs.declared.topology.Topology.{Topology}
 use Rattle.running_nodes.specs.MachineModel.Network.{same_role}
 use Rattle.running_nodes.specs.MachineModel.Session.{Role, Agent, Configuration, Controller}
 use Rattle.running_nodes.specs.MachineModel.Setup.{Move, Name, id_of, is_listed}
-use Rattle.running_nodes.specs.RunningModel.Controls.{Controls}
-use Rattle.running_nodes.specs.RunningModel.Moving.{Moves, PassesAll, PassesAt, before_passes, came, is_agent_named, is_listed_who, joined, joined_by}
-use Rattle.running_nodes.specs.RunningModel.Moving.{left_all, left_at, reseated, retired_of}
-use Rattle.running_nodes.specs.RunningModel.Moving.{seats_of}
-use Rattle.running_nodes.specs.RunningModel.Seats.{Who, Configuring, Controlling, Forwarding, Seat, index_from, name_of, nobody, other}
-use Rattle.running_nodes.specs.RunningModel.Seats.{others_of}
-use Rattle.running_nodes.specs.RunningModel.Seats.{role_of, seat, seat_named, session_with}
-use Rattle.running_nodes.specs.RunningModel.Stands.{IsLong}
-use Rattle.running_nodes.specs.RunningModel.Steps.{Passes, fresh_seat, with_seat}
+use Rattle.running_nodes.specs.Controls.{Controls}
+use Rattle.running_nodes.specs.Moving.{Moves, PassesAll, PassesAt, before_passes, came, is_agent_named, is_listed_who, joined, joined_by}
+use Rattle.running_nodes.specs.Moving.{left_all, left_at, reseated, retired_of}
+use Rattle.running_nodes.specs.Moving.{seats_of}
+use Rattle.running_nodes.specs.Seats.{Who, Configuring, Controlling, Forwarding, Seat, index_from, name_of, nobody, other}
+use Rattle.running_nodes.specs.Seats.{others_of}
+use Rattle.running_nodes.specs.Seats.{role_of, seat, seat_named, session_with}
+use Rattle.running_nodes.specs.Stands.{IsLong}
+use Rattle.running_nodes.specs.Steps.{Passes, fresh_seat, with_seat}
 use Rattle.running_laws.proofs.FirstPlaces.{at_map}
 use Rattle.running_laws.proofs.Lists.{AreAlike, same_who, with_alike}
 use Rattle.net_machine.specs.Moving.{AreLeft, CanMove, HasAgent, HasAgentsBehind, HasControls, HasRoom}

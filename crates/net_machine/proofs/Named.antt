@@ -15,8 +15,8 @@ use Rattle.running_nodes.specs.MachineModel.Network.{MachineState}
 use Rattle.running_nodes.specs.MachineModel.Steps.{joins}
 use Rattle.running_nodes.specs.MachineModel.Events as events
 use Rattle.running_nodes.proofs.MachineModel.Twins.{itself}
-use Rattle.running_nodes.specs.RunningModel.Seats.{Seat, far_of, place_of}
-use Rattle.running_nodes.specs.RunningModel.SessionPlace.{SessionPlace}
+use Rattle.running_nodes.specs.Seats.{Seat, far_of, place_of}
+use Rattle.running_nodes.specs.declared.place.SessionPlace.{SessionPlace}
 use Rattle.net_machine.specs.declared.ends.SessionEnds.{SessionEnds}
 use Rattle.net_machine.specs.Seating.{ends_at, ends_from, ends_of, is_earlier, order_among, same_ends, same_place, turned}
 use Rattle.net_machine.proofs.Facts.{At, Facts, IsStood}

@@ -17,8 +17,8 @@ use Rattle.running_nodes.specs.MachineModel.Setup.{Move, Setup, checked, edited_
 use Rattle.running_nodes.proofs.MachineModel.NodesFact.{Holds, holds_steps, pass_nodes}
 use Rattle.running_nodes.proofs.MachineModel.Walk.{next_walk}
 use Rattle.config_check.specs.Edits as config_edits
-use Rattle.running_nodes.specs.RunningModel.Seats.{Configuring, Seat, seat}
-use Rattle.running_nodes.specs.RunningModel.Stands.{message_size}
+use Rattle.running_nodes.specs.Seats.{Configuring, Seat, seat}
+use Rattle.running_nodes.specs.Stands.{message_size}
 use Rattle.schedule_script.specs.declared.answer.Answer.{Answer}
 use Rattle.schedule_script.specs.declared.tied_answer.TiedAnswer.{TiedAnswer}
 use Rattle.schedule_script.specs.declared.tied_answer.TiedAnswer.TheVariants.{Answered, EditTied}

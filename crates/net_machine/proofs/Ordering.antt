@@ -11,7 +11,7 @@ use Rattle.config_types.specs.declared.topology.Node.{Node}
 use Rattle.config_types.specs.declared.topology.Topology.{Topology}
 use Rattle.running_nodes.specs.MachineModel.Session.{Session, Agent, Controller}
 use Rattle.running_nodes.specs.MachineModel.Network.{accesses, accesses_of, between, feeds, lists, peerings}
-use Rattle.running_nodes.specs.RunningModel.Seats.{Seat}
+use Rattle.running_nodes.specs.Seats.{Seat}
 use Rattle.net_machine.specs.declared.ends.SessionEnds.{SessionEnds}
 use Rattle.net_machine.specs.declared.round.Due.{Due}
 use Rattle.net_machine.specs.Rounds.{IsDueSeated, due_at, dues}

@@ -11,10 +11,10 @@ use Rattle.running_nodes.specs.MachineModel.Setup.{checked}
 use Rattle.running_nodes.specs.MachineModel.Setup.{opening as opening_setup}
 use Rattle.running_laws.specs.MachineLaws.Headline.{AgentsShowRows, ControlNodesShowTables, IsOfForm, IsWritten}
 use Rattle.running_laws.proofs.MachineLaws.Configured.{agents_show_rows, control_nodes_show_tables}
-use Rattle.running_nodes.specs.RunningModel.Seats.{Configuring, Seat, Who, name_of, seat}
-use Rattle.running_nodes.specs.RunningModel.Stands.{StandsFor, message_size}
-use Rattle.running_nodes.specs.RunningModel.Steps.{shown_by}
-use Rattle.running_nodes.proofs.RunningModel.Sizes.{positive}
+use Rattle.running_nodes.specs.Seats.{Configuring, Seat, Who, name_of, seat}
+use Rattle.running_nodes.specs.Stands.{StandsFor, message_size}
+use Rattle.running_nodes.specs.Steps.{shown_by}
+use Rattle.running_nodes.proofs.Sizes.{positive}
 use Rattle.running_laws.proofs.Parties.{by_node}
 use Rattle.running_laws.proofs.Seating.{root_at, seat_found, who_above}
 use Rattle.running_laws.proofs.Written.{seats_are_nodes, shows_at, written_apart, written_named}

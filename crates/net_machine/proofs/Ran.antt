@@ -22,11 +22,11 @@ use Rattle.running_nodes.specs.MachineModel.Network.{asked, start}
 use Rattle.running_nodes.specs.MachineModel.Events.{event_of}
 use Rattle.running_nodes.specs.MachineModel.Setup.{checked, opening}
 use Rattle.running_nodes.specs.MachineModel.Steps as machine
-use Rattle.running_nodes.specs.RunningModel.Seats.{Configuring, Seat, Who, seat, whos}
-use Rattle.running_nodes.specs.RunningModel.Stands.{StandsFor, message_size}
+use Rattle.running_nodes.specs.Seats.{Configuring, Seat, Who, seat, whos}
+use Rattle.running_nodes.specs.Stands.{StandsFor, message_size}
 use Rattle.running_laws.specs.Moments.{IsMoment}
 use Rattle.running_laws.proofs.Moments.{moment_sessions}
-use Rattle.running_nodes.specs.RunningModel.Steps.{fresh_seat}
+use Rattle.running_nodes.specs.Steps.{fresh_seat}
 use Rattle.running_laws.proofs.Given.{given}
 use Rattle.running_laws.proofs.Started.{fresh_seats_stand}
 use Rattle.schedule_script.specs.declared.tied_answer.TiedAnswer.{TiedAnswer}

@@ -6,7 +6,7 @@ use Rattle.running_nodes.specs.MachineModel.Session as session
 use Rattle.running_nodes.specs.MachineModel.Session.{Session}
 use Rattle.running_nodes.specs.MachineModel.Network.{MachineState}
 use Rattle.running_nodes.specs.MachineModel.Steps as steps
-use Rattle.running_nodes.specs.RunningModel.Seats.{Seat}
+use Rattle.running_nodes.specs.Seats.{Seat}
 use Rattle.net_machine.specs.declared.ends.SessionEnds.{SessionEnds}
 use Rattle.net_machine.specs.Seating.{order_among}
 use Rattle.net_machine.specs.Settling.{is_quiet, is_rested, is_settled, is_still}

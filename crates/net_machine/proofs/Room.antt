@@ -24,7 +24,7 @@ use Rattle.running_nodes.specs.MachineModel.Setup.{is_listed, lists, moves, open
 use Rattle.node_model.proofs.Members.{none_some}
 use Rattle.node_model.specs.Maps.{Map}
 use Rattle.node_model.specs.Members.{Member}
-use Rattle.running_nodes.specs.RunningModel.Stands.{message_size}
+use Rattle.running_nodes.specs.Stands.{message_size}
 use Rattle.running_nodes.proofs.SetUp.{set_up}
 use Rattle.running_laws.specs.Moments.{IsMoment}
 use Rattle.running_laws.proofs.Moments.{Follows, at_first, at_moment, follows_edit, follows_next}

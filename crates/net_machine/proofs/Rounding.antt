@@ -9,7 +9,7 @@ use Rattle.running_nodes.specs.MachineModel.Network.{MachineState}
 use Rattle.running_nodes.specs.MachineModel.Steps as steps
 use Rattle.running_nodes.specs.MachineModel.Steps.{round}
 use Rattle.running_nodes.specs.MachineModel.Moments.{NodePair, nodes}
-use Rattle.running_nodes.specs.RunningModel.Seats.{Seat}
+use Rattle.running_nodes.specs.Seats.{Seat}
 use Rattle.net_machine.specs.declared.ends.SessionEnds.{SessionEnds}
 use Rattle.net_machine.specs.Rounds.{IsRound, due_at, dues}
 use Rattle.net_machine.specs.Seating.{Keeps, ends_of, order_among, turned}

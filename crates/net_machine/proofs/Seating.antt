@@ -10,9 +10,9 @@ use Rattle.std.proofs.lemmas.Bool.{true≢false}
 use Rattle.std.proofs.lemmas.Option.{same_Some}
 use Rattle.ov_types.specs.First.{same_name}
 use Rattle.running_nodes.specs.MachineModel.Setup.{Name}
-use Rattle.running_nodes.specs.RunningModel.Seats.{Seat, far_of, index_from, is_name, name_of, nobody, other, others_of, place_at, place_of}
-use Rattle.running_nodes.specs.RunningModel.Seats.{seat, seat_named, session_with}
-use Rattle.running_nodes.specs.RunningModel.SessionPlace.{SessionPlace}
+use Rattle.running_nodes.specs.Seats.{Seat, far_of, index_from, is_name, name_of, nobody, other, others_of, place_at, place_of}
+use Rattle.running_nodes.specs.Seats.{seat, seat_named, session_with}
+use Rattle.running_nodes.specs.declared.place.SessionPlace.{SessionPlace}
 use Rattle.net_machine.specs.Seating.{AreLong, AreSeated, HasOther, IsSeated}
 
 -- what is found stands in the list

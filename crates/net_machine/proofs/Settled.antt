@@ -8,8 +8,8 @@ use Rattle.running_nodes.specs.MachineModel.Steps as steps
 use Rattle.running_nodes.specs.MachineModel.Steps.{connect_all, round, rounds_from, settle, without_breaks}
 use Rattle.running_nodes.specs.MachineModel.Moments.{nodes}
 use Rattle.running_nodes.proofs.MachineModel.NodesFact.{connect_all_nodes, round_nodes}
-use Rattle.running_nodes.specs.RunningModel.Seats.{Seat}
-use Rattle.running_nodes.specs.RunningModel.Steps.{unbroken as unbroken_seat}
+use Rattle.running_nodes.specs.Seats.{Seat}
+use Rattle.running_nodes.specs.Steps.{unbroken as unbroken_seat}
 use Rattle.running_laws.specs.Moments.{unbroken}
 use Rattle.net_machine.specs.declared.ends.SessionEnds.{SessionEnds}
 use Rattle.net_machine.specs.Rounds.{IsRound}

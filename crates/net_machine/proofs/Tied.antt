@@ -16,8 +16,8 @@ use Rattle.running_laws.specs.MachineLaws.Refusing.{TiedNetwork, next_tied}
 use Rattle.running_laws.specs.MachineLaws.Running.{ties_next, ties_with}
 use Rattle.running_nodes.specs.MachineModel.Events.{MachineEvent, answer_to, event_of, next}
 use Rattle.running_nodes.specs.MachineModel.Setup.{Setup, checked, edited_without, opening}
-use Rattle.running_nodes.specs.RunningModel.Seats.{Seat}
-use Rattle.running_nodes.specs.RunningModel.Stands.{StandsFor, message_size}
+use Rattle.running_nodes.specs.Seats.{Seat}
+use Rattle.running_nodes.specs.Stands.{StandsFor, message_size}
 use Rattle.running_laws.specs.Moments.{IsMoment}
 use Rattle.schedule_script.specs.declared.tied_answer.TiedAnswer.{TiedAnswer}
 use Rattle.schedule_script.specs.declared.tied_answer.TiedAnswer.TheVariants.{Answered, EditTied}

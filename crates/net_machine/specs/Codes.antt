@@ -7,7 +7,7 @@ use Rattle.config_types.specs.declared.event.Event.{Event}
 use Rattle.config_types.specs.contracts.event.Event as events
 use Rattle.schedule_script.specs.Kept.{Kept}
 use Rattle.schedule_script.specs.contracts.kept.Ties as ties
-use Rattle.running_nodes.specs.RunningModel.Seats.{Seat}
+use Rattle.running_nodes.specs.Seats.{Seat}
 use Rattle.running_nodes.specs.Codes.{coded_seat}
 use Rattle.net_machine.specs.NetState.{NetState}
 

@@ -1,9 +1,9 @@
 -- What connecting makes of a network.
 use Rattle.std.specs.Prelude.{◌≡◌, List, [], ◌∷◌, Bool, true, false, not, ◌&&◌}
 use Rattle.ov_link.specs.declared.step.Input.TheVariants.{Opened}
-use Rattle.running_nodes.specs.RunningModel.Seats.{Seat, live_at, seat}
-use Rattle.running_nodes.specs.RunningModel.Steps.{Takes, cleared, with_seat}
-use Rattle.running_nodes.specs.RunningModel.SessionPlace.{SessionPlace}
+use Rattle.running_nodes.specs.Seats.{Seat, live_at, seat}
+use Rattle.running_nodes.specs.Steps.{Takes, cleared, with_seat}
+use Rattle.running_nodes.specs.declared.place.SessionPlace.{SessionPlace}
 use Rattle.net_machine.specs.declared.ends.SessionEnds.{SessionEnds}
 
 -- where both ends are closed

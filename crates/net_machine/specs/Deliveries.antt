@@ -4,9 +4,9 @@ use denote.Bor.{Bor}
 use Rattle.std.specs.List.{concat}
 use Rattle.ov_link.specs.declared.step.Input.{Input}
 use Rattle.ov_link.specs.declared.step.Input.TheVariants.{Bytes, Closed}
-use Rattle.running_nodes.specs.RunningModel.Seats.{Seat, kept_at, link_at, live_at, notice_at, seat}
-use Rattle.running_nodes.specs.RunningModel.Steps.{Takes, cleared, untaken, with_link, with_notice, with_seat}
-use Rattle.running_nodes.specs.RunningModel.SessionPlace.{SessionPlace}
+use Rattle.running_nodes.specs.Seats.{Seat, kept_at, link_at, live_at, notice_at, seat}
+use Rattle.running_nodes.specs.Steps.{Takes, cleared, untaken, with_link, with_notice, with_seat}
+use Rattle.running_nodes.specs.declared.place.SessionPlace.{SessionPlace}
 use Rattle.net_machine.specs.declared.ends.SessionEnds.{SessionEnds}
 
 -- a node takes an input, and the sessions of which it closed its end go down

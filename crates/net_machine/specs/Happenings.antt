@@ -13,8 +13,8 @@ use Rattle.schedule_script.specs.declared.answer.Answer.{Answer}
 use Rattle.schedule_script.specs.declared.answer.Answer.TheVariants.{Did, Idle, Rounds, Shown, Traced}
 use Rattle.running_nodes.specs.MachineModel.Setup.{longest_in}
 use Rattle.running_nodes.specs.MachineModel.Events.{edit_answer, unless}
-use Rattle.running_nodes.specs.RunningModel.Seats.{Seat, seat, seat_named}
-use Rattle.running_nodes.specs.RunningModel.Steps.{forwarders_of, shown_by, with_break_at}
+use Rattle.running_nodes.specs.Seats.{Seat, seat, seat_named}
+use Rattle.running_nodes.specs.Steps.{forwarders_of, shown_by, with_break_at}
 use Rattle.running_laws.specs.Editing.{MakesEdit}
 use Rattle.net_machine.specs.declared.ends.SessionEnds.{SessionEnds}
 use Rattle.net_machine.specs.Connections.{Connects, may_connect}

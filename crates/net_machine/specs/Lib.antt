@@ -17,6 +17,6 @@ pub mod Codes
 pub mod Looking
 pub use Rattle.machine_moment_laws.specs.Runs
 pub mod RunningLaws
-pub mod RunningModel
+pub mod RunningNodes
 pub mod MachineLaws
 pub mod MachineMomentLaws

@@ -16,11 +16,11 @@ use Rattle.config_types.specs.declared.topology.Node.{Node}
 use Rattle.config_types.specs.declared.topology.Topology.{Topology}
 use Rattle.running_nodes.specs.MachineModel.Setup.{Move, Name, id_of, moves}
 use Rattle.running_nodes.specs.MachineModel.Session.{Agent}
-use Rattle.running_nodes.specs.RunningModel.Controls.{Controls, first_agent}
-use Rattle.running_nodes.specs.RunningModel.Moving.{is_listed_who, joined}
-use Rattle.running_nodes.specs.RunningModel.Seats.{Who, Configuring, Controlling, Forwarding, Seat, other, role_of, seat, seat_named}
-use Rattle.running_nodes.specs.RunningModel.Seats.{session_with}
-use Rattle.running_nodes.specs.RunningModel.SessionPlace.{SessionPlace}
+use Rattle.running_nodes.specs.Controls.{Controls, first_agent}
+use Rattle.running_nodes.specs.Moving.{is_listed_who, joined}
+use Rattle.running_nodes.specs.Seats.{Who, Configuring, Controlling, Forwarding, Seat, other, role_of, seat, seat_named}
+use Rattle.running_nodes.specs.Seats.{session_with}
+use Rattle.running_nodes.specs.declared.place.SessionPlace.{SessionPlace}
 use Rattle.net_machine.specs.declared.editing.Moved.{Moved}
 use Rattle.net_machine.specs.declared.editing.Moved.TheVariants.{Yes, No}
 

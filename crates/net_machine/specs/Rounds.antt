@@ -2,7 +2,7 @@
 use Rattle.std.specs.Prelude.{◌≡◌, ℕ, zero, suc, List, [], ◌∷◌, Bool, true, false}
 use mathlib.Core.Bool.{beq}
 use Rattle.std.specs.List.{flat_map}
-use Rattle.running_nodes.specs.RunningModel.Seats.{Seat, notice_at}
+use Rattle.running_nodes.specs.Seats.{Seat, notice_at}
 use Rattle.net_machine.specs.declared.ends.SessionEnds.{SessionEnds}
 use Rattle.net_machine.specs.declared.round.Due.{Due}
 use Rattle.net_machine.specs.Deliveries.{Delivers}

@@ -8,8 +8,8 @@ use Rattle.schedule_script.specs.Kept.{AreAlike, Kept, ties_in}
 use Rattle.running_laws.specs.MachineLaws.Headline.{IsWritten}
 use Rattle.running_nodes.specs.MachineModel.Setup.{checked}
 use Rattle.running_nodes.specs.MachineModel.Setup.{opening as opening_setup}
-use Rattle.running_nodes.specs.RunningModel.Seats.{Seat}
-use Rattle.running_nodes.specs.RunningModel.Stands.{StandsFor}
+use Rattle.running_nodes.specs.Seats.{Seat}
+use Rattle.running_nodes.specs.Stands.{StandsFor}
 use Rattle.machine_moment_laws.specs.Runs.{tied_moment}
 use Rattle.net_machine.specs.declared.ends.SessionEnds.{SessionEnds}
 use Rattle.net_machine.specs.Seating.{order_of}

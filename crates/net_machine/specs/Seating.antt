@@ -11,10 +11,10 @@ use Rattle.config_check.specs.Checked.{Checked}
 use Rattle.running_nodes.specs.MachineModel.Setup.{Name}
 use Rattle.running_nodes.specs.MachineModel.Session.{Session, Controller}
 use Rattle.running_nodes.specs.MachineModel.Network.{asked, between}
-use Rattle.running_nodes.specs.RunningModel.Seats.{Configuring, Seat, far_of, link_at, name_of, notice_at, other, others_of}
-use Rattle.running_nodes.specs.RunningModel.Seats.{place_of, seat, whole_at}
-use Rattle.running_nodes.specs.RunningModel.Stands.{IsLong}
-use Rattle.running_nodes.specs.RunningModel.SessionPlace.{SessionPlace}
+use Rattle.running_nodes.specs.Seats.{Configuring, Seat, far_of, link_at, name_of, notice_at, other, others_of}
+use Rattle.running_nodes.specs.Seats.{place_of, seat, whole_at}
+use Rattle.running_nodes.specs.Stands.{IsLong}
+use Rattle.running_nodes.specs.declared.place.SessionPlace.{SessionPlace}
 use Rattle.net_machine.specs.declared.ends.SessionEnds.{SessionEnds}
 
 -- ---- places

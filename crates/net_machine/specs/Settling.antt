@@ -1,8 +1,8 @@
 -- What settling makes of a network.
 use Rattle.std.specs.Prelude.{◌≡◌, ℕ, zero, suc, ◌+◌, List, map, Bool, ◌&&◌, ◌==◌, MatchBool}
 use Rattle.std.specs.List.{list_all}
-use Rattle.running_nodes.specs.RunningModel.Seats.{Seat, up_at}
-use Rattle.running_nodes.specs.RunningModel.Steps.{unbroken}
+use Rattle.running_nodes.specs.Seats.{Seat, up_at}
+use Rattle.running_nodes.specs.Steps.{unbroken}
 use Rattle.net_machine.specs.declared.ends.SessionEnds.{SessionEnds}
 use Rattle.net_machine.specs.Connections.{ConnectsAll}
 use Rattle.net_machine.specs.Rounds.{IsRound}

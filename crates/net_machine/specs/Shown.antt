@@ -5,8 +5,8 @@ use Rattle.ov_types.specs.declared.rows.NodeRows.TheVariants as Rows
 use Rattle.config_check.specs.Checked.{Checked}
 use Rattle.transform_model.specs.Compiled.{agent_rows}
 use Rattle.transform_model.specs.Tables.{control_rows}
-use Rattle.running_nodes.specs.RunningModel.Seats.{Who, Configuring, Controlling, Forwarding, Seat, seat}
-use Rattle.running_nodes.specs.RunningModel.Steps.{shown_by}
+use Rattle.running_nodes.specs.Seats.{Who, Configuring, Controlling, Forwarding, Seat, seat}
+use Rattle.running_nodes.specs.Steps.{shown_by}
 
 -- the part of a node: of a control node the tables of all instances, of an agent the rows of its address. The
 -- configuration node has none

@@ -3,7 +3,7 @@ use Rattle.std.specs.Prelude.{◌≡◌, List, false}
 use Rattle.config_check.specs.Checked.{Checked}
 use Rattle.config_types.specs.declared.event.Event.{Event}
 use Rattle.schedule_script.specs.Kept.{AreAlike, ties_in}
-use Rattle.running_nodes.specs.RunningModel.Stands.{StandsFor}
+use Rattle.running_nodes.specs.Stands.{StandsFor}
 use Rattle.machine_moment_laws.specs.Runs.{tied_moment}
 use Rattle.net_machine.specs.NetState.{NetState}
 

@@ -13,7 +13,7 @@ use Rattle.schedule_script.specs.Ties.{Ties}
 use Rattle.schedule_script.specs.declared.breaking.Tie.{Tie}
 use Rattle.running_laws.specs.MachineLaws.Running.{ties_with}
 use Rattle.running_nodes.specs.MachineModel.Setup.{Move, edited, moves, opening}
-use Rattle.running_nodes.specs.RunningModel.Seats.{Configuring, Seat, seat}
+use Rattle.running_nodes.specs.Seats.{Configuring, Seat, seat}
 use Rattle.schedule_script.specs.declared.answer.Answer.TheVariants.{Did}
 use Rattle.schedule_script.specs.declared.tied_answer.TiedAnswer.{TiedAnswer}
 use Rattle.schedule_script.specs.declared.tied_answer.TiedAnswer.TheVariants.{Answered, EditTied}

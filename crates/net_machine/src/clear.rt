@@ -1,8 +1,8 @@
 //! What follows a node's step: sessions of which it closed its end go down, and what was sent on sessions that are down
 //! is discarded.
 ghost use Rattle.std.specs.Prelude.{◌≡◌, ◌<◌, [], false, length};
-ghost use Rattle.running_nodes.specs.RunningModel.Seats as seats_of;
-ghost use Rattle.running_nodes.specs.RunningModel.Steps.{cleared, cleared_at, told_of_loss, with_link, with_notice};
+ghost use Rattle.running_nodes.specs.Seats as seats_of;
+ghost use Rattle.running_nodes.specs.Steps.{cleared, cleared_at, told_of_loss, with_link, with_notice};
 ghost use Rattle.net_machine.specs.Seating.{AreLong, IsSeated, Keeps};
 
 use crate::ends::is_whole;

@@ -1,7 +1,7 @@
 //! Connections.
 ghost use Rattle.std.specs.Prelude.{◌≡◌, false, IfOk};
 ghost use Rattle.std.specs.List.{All};
-ghost use Rattle.running_nodes.specs.RunningModel.Seats.{live_at};
+ghost use Rattle.running_nodes.specs.Seats.{live_at};
 ghost use Rattle.net_machine.specs.Connections.{Connects, ConnectsAll, ConnectsAt, Opens, OpensFar, may_connect};
 ghost use Rattle.net_machine.specs.Seating.{AreLong, AreSeated, HasOther, IsSeated, Keeps};
 

@@ -2,7 +2,7 @@
 ghost use Rattle.std.specs.Prelude.{◌≡◌, ◌<◌, drop, length, true, false, IfOk, Some};
 ghost use Rattle.node_core.specs.Whole.{Comes, session_of};
 ghost use Rattle.running_nodes.specs.MachineModel.Setup.{Name as NameOf};
-ghost use Rattle.running_nodes.specs.RunningModel.Seats.{is_live, other, seat};
+ghost use Rattle.running_nodes.specs.Seats.{is_live, other, seat};
 ghost use Rattle.net_machine.specs.Deliveries.{Delivers, DeliversMany, DeliversOctets, TakesAt};
 ghost use Rattle.net_machine.specs.Seating.{AreLong, AreSeated, Keeps};
 

@@ -1,6 +1,6 @@
 //! The sessions of a network, by their two ends.
 ghost use Rattle.std.specs.Prelude.{◌≡◌, IfSome};
-ghost use Rattle.running_nodes.specs.RunningModel.Seats.{whole_at};
+ghost use Rattle.running_nodes.specs.Seats.{whole_at};
 ghost use Rattle.net_machine.specs.Seating.{AreLong, AreSeated, IsSeated, ends_of, is_down, is_earlier, same_ends};
 ghost use Rattle.net_machine.specs.Seating.{same_place, turned, waiting};
 

@@ -1,7 +1,7 @@
 //! Lost sessions, and nodes that restart.
 ghost use Rattle.std.specs.Prelude.{◌≡◌, ◌<◌, [], length, false};
-ghost use Rattle.running_nodes.specs.RunningModel.Seats as seats_of;
-ghost use Rattle.running_nodes.specs.RunningModel.Steps.{told_of_loss, with_link, with_notice};
+ghost use Rattle.running_nodes.specs.Seats as seats_of;
+ghost use Rattle.running_nodes.specs.Steps.{told_of_loss, with_link, with_notice};
 ghost use Rattle.running_laws.specs.Losing.{cut, restarted};
 ghost use Rattle.net_machine.specs.Losses.{lost};
 ghost use Rattle.net_machine.specs.Seating.{AreLong, AreSeated, IsSeated, Keeps};

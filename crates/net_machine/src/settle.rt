@@ -1,7 +1,7 @@
 //! Settling.
 ghost use Rattle.std.specs.Prelude.{◌≡◌, ◌≤◌, ◌<◌, ◌+◌, ◌^◌, map, IfOk};
 ghost use Rattle.std.specs.List.{All};
-ghost use Rattle.running_nodes.specs.RunningModel.Steps.{unbroken};
+ghost use Rattle.running_nodes.specs.Steps.{unbroken};
 ghost use Rattle.net_machine.specs.Seating.{AreLong, AreSeated, Keeps};
 ghost use Rattle.net_machine.specs.Settling.{RoundsFrom, Settles, is_quiet, is_rested, is_settled, is_still};
 

@@ -7,7 +7,7 @@ ghost use Rattle.config_check.specs.Edits.{edited};
 ghost use Rattle.config_types.specs.Form.{has_edit_form};
 ghost use Rattle.config_types.specs.Form.{has_event_form};
 ghost use Rattle.config_types.specs.declared.event.Event.TheVariants as written;
-ghost use Rattle.running_nodes.specs.RunningModel.Seats.{Configuring, seat};
+ghost use Rattle.running_nodes.specs.Seats.{Configuring, seat};
 ghost use Rattle.running_laws.specs.Editing.{MakesEdit};
 ghost use Rattle.schedule_script.specs.Answers.{OfAnswer};
 ghost use Rattle.running_nodes.specs.MachineModel.Setup.{moves};

@@ -16,10 +16,10 @@ use Rattle.machine_laws.specs.MachineModel.Setup.{Name}
 use Rattle.machine_laws.specs.MachineModel.Steps.{session_of}
 use Rattle.machine_laws.specs.Setups.{IsNamed}
 use Rattle.machine_laws.proofs.KindNames.{apart_names}
-use Rattle.running_model.specs.AgentNode.Core as agent
-use Rattle.running_model.specs.Seats.{Forwarding, Seat, agent_plan, controller_named, names_of, no_node, seat}
-use Rattle.running_model.specs.Stands.{Seats, octets_of}
-use Rattle.running_model.specs.declared.place.SessionPlace.{SessionPlace}
+use Rattle.running_nodes.specs.AgentNode.Core as agent
+use Rattle.running_nodes.specs.Seats.{Forwarding, Seat, agent_plan, controller_named, names_of, no_node, seat}
+use Rattle.running_nodes.specs.Stands.{Seats, octets_of}
+use Rattle.running_nodes.specs.declared.place.SessionPlace.{SessionPlace}
 use Rattle.running_laws.specs.Wiring.{GoesBy, IsPlace, name_at, other_at}
 use Rattle.running_laws.proofs.PostEnds.{Ends, IsAt, end_at, seat_ends}
 use Rattle.running_laws.proofs.Going.{GoesWell, agent_sends, near_role, root_goes, sends, site_goes, wanted_near}

@@ -12,10 +12,10 @@ use Rattle.machine_laws.specs.MachineModel.Network.{MachineState}
 use Rattle.machine_laws.specs.MachineModel.Steps.{change_session, joins, pass, with_session}
 use Rattle.machine_laws.proofs.MachineModel.NetworkFact.{found}
 use Rattle.machine_laws.proofs.MachineModel.SessionFact.{Fact, Fact-turned}
-use Rattle.running_model.specs.Seats.{Seat, kept_in, seat}
-use Rattle.running_model.specs.Steps.{IsStepped, as_it_is, cleared, with_seat}
-use Rattle.running_model.specs.Stands.{IsEnd, Seats, message_size}
-use Rattle.running_model.specs.declared.place.SessionPlace.{SessionPlace}
+use Rattle.running_nodes.specs.Seats.{Seat, kept_in, seat}
+use Rattle.running_nodes.specs.Steps.{IsStepped, as_it_is, cleared, with_seat}
+use Rattle.running_nodes.specs.Stands.{IsEnd, Seats, message_size}
+use Rattle.running_nodes.specs.declared.place.SessionPlace.{SessionPlace}
 use Rattle.running_laws.specs.Wiring.{IsPlace, name_at, other_at}
 use Rattle.running_laws.proofs.AtMoments.{IsSound, kept_closed}
 use Rattle.running_laws.proofs.Building.{IsPart, end_refl, part_at}

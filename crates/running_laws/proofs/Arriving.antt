@@ -13,7 +13,7 @@ use Rattle.machine_laws.specs.MachineModel.Session.{Message, Open, Keepalive, He
 use Rattle.machine_laws.specs.MachineModel.Session.{counted, left, meets_break, octets_arrived, shut, told, took, took_octets}
 use Rattle.machine_laws.specs.MachineModel.Session.{with_breaks, without_first}
 use Rattle.machine_laws.specs.MachineModel.Moments.{ArePositive, IsPartly, NoneGoesDown, cell}
-use Rattle.running_model.specs.Taking.{held_after, phase_after, replies_to, replies_to_all}
+use Rattle.running_nodes.specs.Taking.{held_after, phase_after, replies_to, replies_to_all}
 use Rattle.running_laws.proofs.Sent.{taking_session, told_none, took_tells}
 
 -- ---- the messages of which all octets are among the first n, those behind them, and how many octets of the next one are

@@ -8,9 +8,9 @@ use Rattle.machine_laws.specs.MachineModel.Setup.{Name}
 use Rattle.machine_laws.specs.MachineModel.Session.{Session, is_idle, is_peering, is_up_phase, turned}
 use Rattle.machine_laws.specs.MachineModel.Network.{MachineState}
 use Rattle.machine_laws.specs.MachineModel.Steps.{session_of}
-use Rattle.running_model.specs.Seats.{Seat, is_down_at, link_at, seat}
-use Rattle.running_model.specs.Stands.{IsEnd, Seats, octets_of}
-use Rattle.running_model.specs.declared.place.SessionPlace.{SessionPlace}
+use Rattle.running_nodes.specs.Seats.{Seat, is_down_at, link_at, seat}
+use Rattle.running_nodes.specs.Stands.{IsEnd, Seats, octets_of}
+use Rattle.running_nodes.specs.declared.place.SessionPlace.{SessionPlace}
 use Rattle.running_laws.specs.Moments.{IsMoment}
 use Rattle.running_laws.specs.Wiring.{IsPlace, name_at, other_at}
 use Rattle.running_laws.specs.Asking.{AreAt, NoPlaceIsNoSession, PlacesSayWhatSessionsAre, SaysAt}

@@ -13,9 +13,9 @@ use Rattle.machine_laws.proofs.MachineModel.EveryMoment.{joined_is}
 use Rattle.machine_laws.proofs.MachineModel.NetworkFact.{found}
 use Rattle.machine_laws.proofs.MachineModel.SessionFact.{Down, Fact, Fact-turned, live_receiver}
 use Rattle.machine_laws.proofs.MachineModel.Twins.{each_weaker}
-use Rattle.running_model.specs.Seats.{Seat, kept_in}
-use Rattle.running_model.specs.Stands.{IsDownWhere, IsEnd, Seats, StandsFor, message_size, is_whole_end}
-use Rattle.running_model.specs.Telling.{CanBeHeard}
+use Rattle.running_nodes.specs.Seats.{Seat, kept_in}
+use Rattle.running_nodes.specs.Stands.{IsDownWhere, IsEnd, Seats, StandsFor, message_size, is_whole_end}
+use Rattle.running_nodes.specs.Telling.{CanBeHeard}
 use Rattle.running_laws.specs.Moments.{IsMoment}
 pub use Rattle.running_laws.proofs.Moments.{IsSound, moment_sound}
 use Rattle.running_laws.proofs.Facts.{IsRight, Moments}

@@ -15,10 +15,10 @@ use Rattle.machine_laws.specs.MachineModel.Network.{MachineState}
 use Rattle.machine_laws.specs.MachineModel.Steps.{change_session, joins, session_in, session_of, without_breaks}
 use Rattle.machine_laws.specs.MachineModel.Events.{Break, add_break, answer_to, next, unless}
 use Rattle.machine_laws.proofs.MachineModel.Idle.{idle_same}
-use Rattle.running_model.specs.Seats.{Seat, breaks_at, kept_in, link, seat}
-use Rattle.running_model.specs.Steps.{unbroken as unbroken_seat, with_break_at}
-use Rattle.running_model.specs.Stands.{IsEnd, IsLong, IsVacant, KeepsPart, Seats, StandsFor, first_of, message_size}
-use Rattle.running_model.specs.declared.place.SessionPlace.{SessionPlace}
+use Rattle.running_nodes.specs.Seats.{Seat, breaks_at, kept_in, link, seat}
+use Rattle.running_nodes.specs.Steps.{unbroken as unbroken_seat, with_break_at}
+use Rattle.running_nodes.specs.Stands.{IsEnd, IsLong, IsVacant, KeepsPart, Seats, StandsFor, first_of, message_size}
+use Rattle.running_nodes.specs.declared.place.SessionPlace.{SessionPlace}
 use Rattle.running_laws.specs.Moments.{IsMoment, unbroken}
 use Rattle.running_laws.specs.Wiring.{IsPlace, name_at, other_at}
 use Rattle.running_laws.specs.Asking.{AreAt}

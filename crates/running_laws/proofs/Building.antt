@@ -10,10 +10,10 @@ use Rattle.node_model.specs.Step.{Post, nothing, post}
 use Rattle.machine_laws.specs.MachineModel.Session.{SessionEnd, Session, is_peering}
 use Rattle.machine_laws.specs.MachineModel.Network.{MachineState}
 use Rattle.machine_laws.specs.MachineModel.Steps.{session_of}
-use Rattle.running_model.specs.Seats.{Seat, breaks_in, far_of, kept_in, link, notice, other, others_of, seat, whos}
-use Rattle.running_model.specs.Steps.{with_seat}
-use Rattle.running_model.specs.Stands.{HasEnd, IsEnd, IsLong, IsVacant, KeepsPart, Seats, first_of, octets_of}
-use Rattle.running_model.specs.declared.place.SessionPlace.{SessionPlace}
+use Rattle.running_nodes.specs.Seats.{Seat, breaks_in, far_of, kept_in, link, notice, other, others_of, seat, whos}
+use Rattle.running_nodes.specs.Steps.{with_seat}
+use Rattle.running_nodes.specs.Stands.{HasEnd, IsEnd, IsLong, IsVacant, KeepsPart, Seats, first_of, octets_of}
+use Rattle.running_nodes.specs.declared.place.SessionPlace.{SessionPlace}
 use Rattle.running_laws.specs.Wiring.{IsPlace, name_at, other_at}
 use Rattle.running_laws.proofs.Lists.{AreAlike, AreFit, EndAt, far_nowhere, not_nobody, place_with, same_name_at, same_other}
 use Rattle.running_laws.proofs.Lists.{same_other_at, seat_elsewhere, seat_here, there_or_nobody, with_alike}

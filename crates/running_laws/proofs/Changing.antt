@@ -10,9 +10,9 @@ use Rattle.machine_laws.specs.MachineModel.Steps.{change_session, session_of}
 use Rattle.machine_laws.specs.MachineModel.Moments.{Each}
 use Rattle.machine_laws.proofs.MachineModel.NetworkFact.{KeepsNodes}
 use Rattle.machine_laws.proofs.MachineModel.NodesFact.{session_nodes}
-use Rattle.running_model.specs.Seats.{Seat, far_of, place_of, seat}
-use Rattle.running_model.specs.Stands.{IsEnd, KeepsPart, Seats}
-use Rattle.running_model.specs.declared.place.SessionPlace.{SessionPlace}
+use Rattle.running_nodes.specs.Seats.{Seat, far_of, place_of, seat}
+use Rattle.running_nodes.specs.Stands.{IsEnd, KeepsPart, Seats}
+use Rattle.running_nodes.specs.declared.place.SessionPlace.{SessionPlace}
 use Rattle.running_laws.specs.Wiring.{IsPlace, name_at, other_at}
 use Rattle.running_laws.proofs.Building.{SameEnd, has_end, moved, part_at, part_of, part_same, seats_by_places}
 use Rattle.running_laws.proofs.Facts.{IsRight, Wired}

@@ -9,10 +9,10 @@ use Rattle.std.proofs.lemmas.Option.{same_Some}
 use Rattle.std.proofs.Common.{refl, sym, ◌∙◌, ap, subst, inl, inr, arith}
 use Rattle.node_model.specs.Step.{Post}
 use Rattle.machine_laws.specs.MachineModel.Session.{is_idle}
-use Rattle.running_model.specs.Seats.{Seat, far_of, is_down_at, link_at, live_at, nobody, notice_at, other, seat}
-use Rattle.running_model.specs.Stands.{IsVacant}
-use Rattle.running_model.specs.Steps.{cleared, cleared_at, cleared_from, told_of_loss, with_link, with_notice, with_seat}
-use Rattle.running_model.specs.declared.place.SessionPlace.{SessionPlace}
+use Rattle.running_nodes.specs.Seats.{Seat, far_of, is_down_at, link_at, live_at, nobody, notice_at, other, seat}
+use Rattle.running_nodes.specs.Stands.{IsVacant}
+use Rattle.running_nodes.specs.Steps.{cleared, cleared_at, cleared_from, told_of_loss, with_link, with_notice, with_seat}
+use Rattle.running_nodes.specs.declared.place.SessionPlace.{SessionPlace}
 use Rattle.running_laws.specs.Wiring.{HasFar, IsPlace}
 use Rattle.running_laws.proofs.Building.{AllBut, SameEnd, Stays, end_refl, end_trans, fit_but, stays_refl, stays_trans}
 use Rattle.running_laws.proofs.Lists.{far_nowhere, not_nobody, same_far_of, same_or_other, same_other, same_place, seat_elsewhere}

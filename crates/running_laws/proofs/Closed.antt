@@ -5,7 +5,7 @@ use Rattle.std.proofs.Common.{ap, inl, inr, sym, ◌∙◌}
 use Rattle.machine_laws.specs.MachineModel.Session.{Session, is_idle, is_live, is_peering}
 use Rattle.machine_laws.specs.MachineModel.Steps.{may_connect}
 use Rattle.machine_laws.proofs.MachineModel.SessionFact.{Fact, live_receiver}
-use Rattle.running_model.specs.Stands.{message_size}
+use Rattle.running_nodes.specs.Stands.{message_size}
 use Rattle.running_laws.specs.Asking.{ClosedSessionsMayConnect, NothingWaitsAtClosedEnds}
 use Rattle.running_laws.proofs.Asked.{places_say}
 use Rattle.running_laws.proofs.AtMoments.{closed_down, found_sound}

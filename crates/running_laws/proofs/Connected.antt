@@ -19,10 +19,10 @@ use Rattle.machine_laws.specs.MachineModel.Moments.{nodes}
 use Rattle.machine_laws.proofs.MachineModel.Deeds.{others_stay, strangers_stay}
 use Rattle.machine_laws.proofs.MachineModel.NetworkFact.{opened_nodes, passed_nodes}
 use Rattle.machine_laws.proofs.MachineModel.SessionFact.{Down, IsTidy}
-use Rattle.running_model.specs.Seats.{Seat, far_of, is_down_at, link, link_at, live_at, name_of, notice, notice_at, other, seat}
-use Rattle.running_model.specs.Steps.{Takes, cleared, with_seat}
-use Rattle.running_model.specs.Stands.{Seats}
-use Rattle.running_model.specs.declared.place.SessionPlace.{SessionPlace}
+use Rattle.running_nodes.specs.Seats.{Seat, far_of, is_down_at, link, link_at, live_at, name_of, notice, notice_at, other, seat}
+use Rattle.running_nodes.specs.Steps.{Takes, cleared, with_seat}
+use Rattle.running_nodes.specs.Stands.{Seats}
+use Rattle.running_nodes.specs.declared.place.SessionPlace.{SessionPlace}
 use Rattle.running_laws.specs.Moments.{IsMoment}
 use Rattle.running_laws.specs.Wiring.{HasFar, IsPlace, name_at, other_at}
 use Rattle.running_laws.proofs.Asked.{down_here}

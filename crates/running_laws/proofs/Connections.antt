@@ -16,15 +16,15 @@ use Rattle.machine_laws.specs.MachineModel.Moments.{Each, nodes}
 use Rattle.machine_laws.proofs.MachineModel.NetworkFact.{connect_all_sound}
 use Rattle.machine_laws.proofs.MachineModel.SessionFact.{Down, Fact}
 use Rattle.machine_laws.proofs.MachineModel.Twins.{IsOther, NoTwins, itself, same_name_sym, swap_and}
-use Rattle.running_model.specs.Seats.{Seat, is_down_at, live_at, notice_at}
-use Rattle.running_model.specs.Steps.{cleared, with_seat}
-use Rattle.running_model.specs.Stands.{Seats, StandsFor, message_size}
-use Rattle.running_model.specs.declared.place.SessionPlace.{SessionPlace}
+use Rattle.running_nodes.specs.Seats.{Seat, is_down_at, live_at, notice_at}
+use Rattle.running_nodes.specs.Steps.{cleared, with_seat}
+use Rattle.running_nodes.specs.Stands.{Seats, StandsFor, message_size}
+use Rattle.running_nodes.specs.declared.place.SessionPlace.{SessionPlace}
 use Rattle.running_laws.specs.Moments.{IsMoment}
 use Rattle.running_laws.specs.Wiring.{IsPlaceOf, name_at, other_at}
 use Rattle.running_laws.specs.Connecting.{ConnectionsAreMade, EarlierConnectionsAreEvents, NearIsEarlier, NothingIsConnected, OpensBehind, OpensBoth}
 use Rattle.running_laws.proofs.Asked.{down_here, places_say}
-use Rattle.running_model.proofs.Sizes.{positive}
+use Rattle.running_nodes.proofs.Sizes.{positive}
 use Rattle.running_laws.proofs.AtMoments.{IsSound, all_down_where, found_sound, moment_right, moment_sound}
 use Rattle.running_laws.proofs.Connected.{closed_connects, closed_stands, open_connects, open_stands}
 use Rattle.running_laws.proofs.Facts.{Facts, IsRight, right_twins}

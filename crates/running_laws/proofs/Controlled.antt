@@ -43,10 +43,10 @@ use Rattle.node_model.proofs.Orders.{key_exact, key_total, prefix_total}
 use Rattle.node_model.proofs.Routes.{own_route_from, published_here, reoriginated_from}
 use Rattle.node_model.proofs.Selection.{selected_least}
 use Rattle.node_model.proofs.Wanted.{row_of_path}
-use Rattle.running_model.specs.NodeRoutes.First.{RouteFitsItsTypes}
-use Rattle.running_model.specs.NodeRoutes.Told.{IsWritable}
-use Rattle.running_model.specs.ControlWants.Held.{HoldingsFit, RouteFits}
-use Rattle.running_model.proofs.ControlWants.Fitting.{agents_fit, peers_fit, hop_small, all_at, numbered, within, instance_small}
+use Rattle.running_nodes.specs.NodeRoutes.First.{RouteFitsItsTypes}
+use Rattle.running_nodes.specs.NodeRoutes.Told.{IsWritable}
+use Rattle.running_nodes.specs.ControlWants.Held.{HoldingsFit, RouteFits}
+use Rattle.running_nodes.proofs.ControlWants.Fitting.{agents_fit, peers_fit, hop_small, all_at, numbered, within, instance_small}
 use Rattle.running_laws.proofs.Fitness.{FitsItem, FitsPeer, MayTell}
 
 -- ---- what is held

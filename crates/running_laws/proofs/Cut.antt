@@ -15,16 +15,16 @@ use Rattle.item_wire.specs.declared.event.ItemFrom.TheVariants as From
 use Rattle.node_core.specs.Beginning as item
 use Rattle.node_model.specs.Maps.{Map}
 use Rattle.node_model.specs.Step.{Beginning, Phase, Idle, Opened, Confirmed, Up, Post, is_idle}
-use Rattle.running_model.specs.ConfigNode.Beginning as configuration
-use Rattle.running_model.specs.ControlNode.Beginning as control
-use Rattle.running_model.specs.ControlNode.Core.{is_peer}
-use Rattle.running_model.specs.ControlNode.NodeCause.{NodeCause}
-use Rattle.running_model.specs.ControlNode.ControlPlan.{ControlPlan}
-use Rattle.running_model.specs.AgentNode.Beginning as agent
+use Rattle.running_nodes.specs.ConfigNode.Beginning as configuration
+use Rattle.running_nodes.specs.ControlNode.Beginning as control
+use Rattle.running_nodes.specs.ControlNode.Core.{is_peer}
+use Rattle.running_nodes.specs.ControlNode.NodeCause.{NodeCause}
+use Rattle.running_nodes.specs.ControlNode.ControlPlan.{ControlPlan}
+use Rattle.running_nodes.specs.AgentNode.Beginning as agent
 use Rattle.machine_laws.specs.MachineModel.Network.{config}
-use Rattle.running_model.specs.Controls.{plan_of}
-use Rattle.running_model.specs.Seats.{Who, Configuring, Controlling, Forwarding}
-use Rattle.running_model.specs.Steps.{BeginsAt}
+use Rattle.running_nodes.specs.Controls.{plan_of}
+use Rattle.running_nodes.specs.Seats.{Who, Configuring, Controlling, Forwarding}
+use Rattle.running_nodes.specs.Steps.{BeginsAt}
 use Rattle.running_laws.specs.Cutting.{AreAlike, BeginsInTurn, GoesOn, PartsAreAsWhole, WholeIsAsParts, and_then, octets_in, told, with_sent}
 use Rattle.running_laws.proofs.CutItems as items
 use Rattle.running_laws.proofs.CutItems.{items_down, items_live, items_one, items_sent, items_up}

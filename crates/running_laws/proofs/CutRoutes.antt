@@ -23,12 +23,12 @@ use Rattle.node_model.specs.Maps.{Change, Map}
 use Rattle.node_model.specs.Step.{Beginning, Phase, Idle, Opened, Confirmed, Up, Post, is_idle}
 use Rattle.node_model.specs.Values.{Route}
 use Rattle.node_model.proofs.Members.{none_some}
-use Rattle.running_model.specs.NodeRoutes.Beginning.{BeginsKeeping, left_by, phase_of}
-use Rattle.running_model.specs.NodeRoutes.Hearing.{RouteHearing, heard}
-use Rattle.running_model.specs.NodeRoutes.Keeping.{Leaves, session_after}
-use Rattle.running_model.specs.NodeRoutes.Keeping as keeping
-use Rattle.running_model.proofs.NodeRoutes.Cutting.{cut_down, cut_up, heard_of_both, leaves_one, live_after, nothing_left}
-use Rattle.running_model.specs.ControlNode.Beginning.{peer_state}
+use Rattle.running_nodes.specs.NodeRoutes.Beginning.{BeginsKeeping, left_by, phase_of}
+use Rattle.running_nodes.specs.NodeRoutes.Hearing.{RouteHearing, heard}
+use Rattle.running_nodes.specs.NodeRoutes.Keeping.{Leaves, session_after}
+use Rattle.running_nodes.specs.NodeRoutes.Keeping as keeping
+use Rattle.running_nodes.proofs.NodeRoutes.Cutting.{cut_down, cut_up, heard_of_both, leaves_one, live_after, nothing_left}
+use Rattle.running_nodes.specs.ControlNode.Beginning.{peer_state}
 use Rattle.running_laws.specs.Cutting.{and_then, told, with_sent}
 
 state_back : (state : State) → peer_state (phase_of state) ≡ state

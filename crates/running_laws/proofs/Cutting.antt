@@ -7,8 +7,8 @@ use Rattle.std.proofs.lemmas.List.{drop-take, length-take-le, take-append-drop, 
 use Rattle.std.proofs.Math.Seq.{take-append-add, take-nil}
 use Rattle.machine_laws.specs.MachineModel.Session.{Message}
 use Rattle.machine_laws.specs.MachineModel.Moments.{IsPartly}
-use Rattle.running_model.specs.Stands.{first_of}
-use Rattle.running_model.specs.Steps.{untaken}
+use Rattle.running_nodes.specs.Stands.{first_of}
+use Rattle.running_nodes.specs.Steps.{untaken}
 use Rattle.running_laws.proofs.Arriving.{rest_of, taken_of, whole_of}
 
 -- ---- the first so many octets of a list

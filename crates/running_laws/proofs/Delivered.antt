@@ -10,10 +10,10 @@ use Rattle.machine_laws.specs.MachineModel.Session.{Session, arrived, octets_arr
 use Rattle.machine_laws.specs.MachineModel.Network.{MachineState}
 use Rattle.machine_laws.specs.MachineModel.Steps.{change_session, deliver, deliver_octets, in_flight, pass}
 use Rattle.machine_laws.specs.MachineModel.Events.{Deliver, next}
-use Rattle.running_model.specs.Seats.{Seat, link_at}
-use Rattle.running_model.specs.Steps.{cleared, with_link, with_notice, with_seat}
-use Rattle.running_model.specs.Stands.{Seats, StandsFor, message_size}
-use Rattle.running_model.specs.declared.place.SessionPlace.{SessionPlace}
+use Rattle.running_nodes.specs.Seats.{Seat, link_at}
+use Rattle.running_nodes.specs.Steps.{cleared, with_link, with_notice, with_seat}
+use Rattle.running_nodes.specs.Stands.{Seats, StandsFor, message_size}
+use Rattle.running_nodes.specs.declared.place.SessionPlace.{SessionPlace}
 use Rattle.running_laws.specs.Moments.{IsMoment}
 use Rattle.running_laws.specs.Wiring.{HasFar, IsPlaceOf}
 use Rattle.running_laws.specs.Delivering.{MessagesAreDelivered, NoticesAreDelivered, NothingIsDelivered, TakesAt}

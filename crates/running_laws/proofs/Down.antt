@@ -5,9 +5,9 @@ use Rattle.std.proofs.Math.Bool.{and_comm}
 use Rattle.node_model.specs.Step.{post}
 use Rattle.machine_laws.specs.MachineModel.Session.{Session, is_idle, turned}
 use Rattle.machine_laws.specs.MachineModel.Network.{MachineState}
-use Rattle.running_model.specs.Seats.{Seat, is_down_at, notice, seat, whole_at, whole_there}
-use Rattle.running_model.specs.Stands.{IsDownWhere, IsEnd, Seats, is_whole_end}
-use Rattle.running_model.specs.declared.place.SessionPlace.{SessionPlace}
+use Rattle.running_nodes.specs.Seats.{Seat, is_down_at, notice, seat, whole_at, whole_there}
+use Rattle.running_nodes.specs.Stands.{IsDownWhere, IsEnd, Seats, is_whole_end}
+use Rattle.running_nodes.specs.declared.place.SessionPlace.{SessionPlace}
 use Rattle.running_laws.specs.Wiring.{IsPlace}
 use Rattle.running_laws.proofs.Facts.{IsRight, Wired}
 use Rattle.running_laws.proofs.Here.{Here}

@@ -30,13 +30,13 @@ use Rattle.machine_laws.specs.MachineModel.Moments.{EditIsValid}
 use Rattle.machine_laws.proofs.MachineModel.NetworkFact.{found, moved_sound}
 use Rattle.machine_laws.proofs.MachineModel.NodesFact.{pass_nodes}
 use Rattle.machine_laws.specs.Headline.{IsOfForm}
-use Rattle.running_model.specs.Seats.{Seat, Who, Configuring, far_of, index_from, is_name, name_of, names_of, nobody, other}
-use Rattle.running_model.specs.Seats.{others_of, place_at, place_of, seat, seat_named, whos}
-use Rattle.running_model.specs.Moving.{MovesIf}
-use Rattle.running_model.specs.Steps.{IsStepped, as_it_is, cleared, with_seat}
-use Rattle.running_model.specs.Stands.{IsLong, KeepsPart, Seats, message_size, octets_of}
-use Rattle.running_model.specs.declared.place.SessionPlace.{SessionPlace}
-use Rattle.running_model.proofs.Sizes.{positive}
+use Rattle.running_nodes.specs.Seats.{Seat, Who, Configuring, far_of, index_from, is_name, name_of, names_of, nobody, other}
+use Rattle.running_nodes.specs.Seats.{others_of, place_at, place_of, seat, seat_named, whos}
+use Rattle.running_nodes.specs.Moving.{MovesIf}
+use Rattle.running_nodes.specs.Steps.{IsStepped, as_it_is, cleared, with_seat}
+use Rattle.running_nodes.specs.Stands.{IsLong, KeepsPart, Seats, message_size, octets_of}
+use Rattle.running_nodes.specs.declared.place.SessionPlace.{SessionPlace}
+use Rattle.running_nodes.proofs.Sizes.{positive}
 use Rattle.running_laws.specs.Moments.{IsMoment}
 use Rattle.running_laws.specs.Wiring.{IsPlace, name_at, other_at}
 use Rattle.running_laws.proofs.Named.{forms}

@@ -6,9 +6,9 @@ use Rattle.std.proofs.Common.{refl, sym, ◌∙◌, ap, subst, inl, inr}
 use Rattle.node_model.specs.Step.{Post, nothing, post}
 use Rattle.machine_laws.specs.MachineModel.Session.{Message, Session, are_peers, is_idle, is_live, is_peering, shut, told, turned, with_breaks}
 use Rattle.machine_laws.proofs.MachineModel.SessionFact.{Down, Fact, live_receiver, map_append, sends}
-use Rattle.running_model.specs.Seats.{Seat, breaks_in, kept_in, link, notice, is_live as is_live_in}
-use Rattle.running_model.specs.Steps.{Sending, end_after, sending}
-use Rattle.running_model.specs.Stands.{IsEnd, message_size, octets_of}
+use Rattle.running_nodes.specs.Seats.{Seat, breaks_in, kept_in, link, notice, is_live as is_live_in}
+use Rattle.running_nodes.specs.Steps.{Sending, end_after, sending}
+use Rattle.running_nodes.specs.Stands.{IsEnd, message_size, octets_of}
 use Rattle.running_laws.proofs.Building.{IsPart, SameEnd, Stays, moved, part_again, part_more, part_none}
 use Rattle.running_laws.proofs.Marks.{end_closed, end_noticed, kept_nothing}
 use Rattle.running_laws.proofs.Quiet.{IsQuiet, quiet_of}

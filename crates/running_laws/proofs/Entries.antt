@@ -23,7 +23,7 @@ use Rattle.machine_laws.proofs.MachineModel.Changing.{renews}
 use Rattle.machine_laws.proofs.MachineModel.Deeds.{setup_kept}
 use Rattle.machine_laws.proofs.MachineModel.Distinct.{Apart, same_false}
 use Rattle.machine_laws.proofs.MachineModel.Listed.{moved_setup}
-use Rattle.running_model.specs.Stands.{message_size}
+use Rattle.running_nodes.specs.Stands.{message_size}
 use Rattle.running_laws.specs.Moments.{IsMoment, after_moves, moved}
 use Rattle.running_laws.proofs.Resettled.{setup_after}
 

@@ -20,12 +20,12 @@ use Rattle.machine_laws.proofs.MachineModel.Apart.{Apart, NamesApart, apart_of, 
 use Rattle.machine_laws.proofs.MachineModel.Twins.{NoTwins}
 use Rattle.machine_laws.specs.Headline.{IsOfForm, IsWritten}
 use Rattle.machine_laws.proofs.Names.{is_named}
-use Rattle.running_model.specs.Seats.{Seat, Who, name_of, others_of, place_of, role_of, seat, whos}
-use Rattle.running_model.specs.Steps.{BeginsAt}
-use Rattle.running_model.specs.Stands.{Seats, message_size, octets_of}
-use Rattle.running_model.specs.Taking.{closed, opened, taken, taken_all}
-use Rattle.running_model.specs.Telling.{CanBeHeard, CanSend}
-use Rattle.running_model.specs.declared.place.SessionPlace.{SessionPlace}
+use Rattle.running_nodes.specs.Seats.{Seat, Who, name_of, others_of, place_of, role_of, seat, whos}
+use Rattle.running_nodes.specs.Steps.{BeginsAt}
+use Rattle.running_nodes.specs.Stands.{Seats, message_size, octets_of}
+use Rattle.running_nodes.specs.Taking.{closed, opened, taken, taken_all}
+use Rattle.running_nodes.specs.Telling.{CanBeHeard, CanSend}
+use Rattle.running_nodes.specs.declared.place.SessionPlace.{SessionPlace}
 use Rattle.running_laws.specs.Hearing.{IsMessageOf, IsPartial, IsPhaseOf}
 use Rattle.running_laws.specs.Moments.{IsMoment, unbroken}
 use Rattle.running_laws.specs.Wiring.{AreSeats, GoesBy, HasFar, HasNumbers, HasSession, HasSessions, IsFound, IsPlace, IsPlaceOf}

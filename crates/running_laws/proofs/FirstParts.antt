@@ -28,8 +28,8 @@ use Rattle.item_wire.specs.declared.item.Item.{Item}
 use Rattle.item_wire.proofs.Cutting.{FrameIs, part_of, long_of, whole_of, read_frame}
 use Rattle.item_wire.proofs.Framed.{framed_is_read}
 use Rattle.node_core.specs.Told.{IsWritable}
-use Rattle.running_model.specs.NodeRoutes.First.{ChangeFitsItsTypes}
-use Rattle.running_model.specs.NodeRoutes.Told.{IsWritable as IsWritableRoute}
+use Rattle.running_nodes.specs.NodeRoutes.First.{ChangeFitsItsTypes}
+use Rattle.running_nodes.specs.NodeRoutes.Told.{IsWritable as IsWritableRoute}
 
 -- ---- records
 one_frame : (r : Result (Option (List ℕ)) TooLong) (a b : List ℕ) → r ≡ Ok (Some a) → r ≡ Ok (Some b) → a ≡ b

@@ -11,7 +11,7 @@ use Rattle.node_model.proofs.Members.{from_filter, from_map, in_either, in_map, 
 use Rattle.machine_laws.specs.MachineModel.Setup.{Name}
 use Rattle.machine_laws.proofs.MachineModel.Twins.{itself}
 use Rattle.machine_laws.proofs.MachineModel.Apart.{Apart, same_false}
-use Rattle.running_model.specs.Seats.{index_from}
+use Rattle.running_nodes.specs.Seats.{index_from}
 
 pub some_none : {A : Type 0} (x : A) → Some x ≡ None → ⊥
 some_none x e = cc

@@ -18,10 +18,10 @@ use Rattle.node_core.proofs.Maps.{key_of_what_fits}
 use Rattle.node_model.specs.Keys.{Key, Low, Publish, Row, Subscribe, Vpn}
 use Rattle.node_model.specs.Maps.{Change}
 use Rattle.node_model.specs.Values.{Entry, Route, Value}
-use Rattle.running_model.specs.NodeRoutes.First.{RouteFitsItsTypes}
-use Rattle.running_model.specs.NodeRoutes.Told.{IsWritable}
+use Rattle.running_nodes.specs.NodeRoutes.First.{RouteFitsItsTypes}
+use Rattle.running_nodes.specs.NodeRoutes.Told.{IsWritable}
 use Rattle.machine_laws.specs.MachineModel.Session.{Role, are_peers}
-use Rattle.running_model.specs.Telling.{CanCarry, CanCarryAs, IsRecordChange, IsRouteChange, from_of}
+use Rattle.running_nodes.specs.Telling.{CanCarry, CanCarryAs, IsRecordChange, IsRouteChange, from_of}
 
 -- ---- entries
 -- whose records may say of a key

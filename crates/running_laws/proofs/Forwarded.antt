@@ -28,8 +28,8 @@ use Rattle.node_model.specs.Members.{Member}
 use Rattle.node_model.specs.Values.{Object, Value}
 use Rattle.node_model.proofs.Members.{from_entry, from_flat_map, from_map, in_either, none_some}
 use Rattle.node_model.proofs.Orders.{key_exact, key_total}
-use Rattle.running_model.proofs.AgentTables.Objects.{circuit}
-use Rattle.running_model.proofs.AgentTables.Telling.{can_be_told, subscription, slice_fits}
+use Rattle.running_nodes.proofs.AgentTables.Objects.{circuit}
+use Rattle.running_nodes.proofs.AgentTables.Telling.{can_be_told, subscription, slice_fits}
 use Rattle.running_laws.proofs.Fitness.{FitsItem, MayTell}
 
 -- the prefix of one address is a block

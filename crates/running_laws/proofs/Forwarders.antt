@@ -15,9 +15,9 @@ use Rattle.machine_laws.specs.MachineModel.Moments.{HasNumbers, HasSessions}
 use Rattle.machine_laws.specs.MachineModel.Network.{MachineState}
 use Rattle.machine_laws.specs.MachineModel.Setup.{checked}
 use Rattle.machine_laws.specs.Setups.{IsNamed}
-use Rattle.running_model.specs.Seats.{Configuring, Controlling, Forwarding, Seat, Who, agent_plan, control_plan, nobody}
-use Rattle.running_model.specs.Stands.{Seats}
-use Rattle.running_model.specs.Steps.{forwarder_of, forwarders_of}
+use Rattle.running_nodes.specs.Seats.{Configuring, Controlling, Forwarding, Seat, Who, agent_plan, control_plan, nobody}
+use Rattle.running_nodes.specs.Stands.{Seats}
+use Rattle.running_nodes.specs.Steps.{forwarder_of, forwarders_of}
 use Rattle.running_laws.proofs.Agents.{computer_holds}
 use Rattle.running_laws.proofs.PostEnds.{Ends, seat_ends}
 use Rattle.running_laws.proofs.FirstPlaces.{all_of, at_of_member, first_is, rest_is, some_nothing}

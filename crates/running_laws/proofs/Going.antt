@@ -17,7 +17,7 @@ use Rattle.node_model.specs.Paths.{Holdings}
 use Rattle.node_model.specs.Step.{Confirmed, Idle, Opened, Phase, Post, Up, post}
 use Rattle.node_model.specs.Wants.{wanted_by_agent, wanted_by_peers}
 use Rattle.node_model.proofs.Members.{in_map, none_some}
-use Rattle.running_model.specs.NodeRoutes.Told as routes
+use Rattle.running_nodes.specs.NodeRoutes.Told as routes
 use Rattle.machine_laws.specs.MachineModel.Moments.{AreOnce, Each, HasNumbers, HasSessions, NodePair, NumbersFit}
 use Rattle.machine_laws.specs.MachineModel.Network.{MachineState, View, address_in, config, control_holdings, heard_from, holdings_of, lists, sessions_of, view, views_of, wanted, wanted_from, wanted_from_control}
 use Rattle.machine_laws.specs.MachineModel.Session.{Agent, Carries, Configuration, Controller, Role, Session, are_peers, is_peering, may_send, may_send_at}
@@ -29,15 +29,15 @@ use Rattle.machine_laws.proofs.MachineModel.Apart.{NamesApart}
 use Rattle.machine_laws.proofs.MachineModel.Distinct.{same_false}
 use Rattle.machine_laws.proofs.KindNames.{apart_names}
 use Rattle.machine_laws.proofs.Views.{far, fars_are}
-use Rattle.running_model.specs.ConfigNode.Core as configuration
-use Rattle.running_model.specs.ControlNode.Core.{is_peer}
-use Rattle.running_model.specs.ControlNode.Wanting as control
-use Rattle.running_model.specs.ControlWants.Held.{told_in}
-use Rattle.running_model.specs.AgentNode.Core as agent
-use Rattle.running_model.specs.Controls as controls
-use Rattle.running_model.specs.Controls.{Controls, holdings, plan_of}
-use Rattle.running_model.specs.Seats.{Configuring, Controlling, Who, control_plan, kind_of, name_of, name_there, names_of, no_node, role_of}
-use Rattle.running_model.specs.Stands.{octets_of}
+use Rattle.running_nodes.specs.ConfigNode.Core as configuration
+use Rattle.running_nodes.specs.ControlNode.Core.{is_peer}
+use Rattle.running_nodes.specs.ControlNode.Wanting as control
+use Rattle.running_nodes.specs.ControlWants.Held.{told_in}
+use Rattle.running_nodes.specs.AgentNode.Core as agent
+use Rattle.running_nodes.specs.Controls as controls
+use Rattle.running_nodes.specs.Controls.{Controls, holdings, plan_of}
+use Rattle.running_nodes.specs.Seats.{Configuring, Controlling, Who, control_plan, kind_of, name_of, name_there, names_of, no_node, role_of}
+use Rattle.running_nodes.specs.Stands.{octets_of}
 use Rattle.running_laws.proofs.PostEnds.{Ends, IsAt, end_at, end_is, own_seen}
 use Rattle.running_laws.proofs.Hearing.{heard_of}
 use Rattle.running_laws.proofs.Holdings.{Fits, Same, control_holds, fits_of}

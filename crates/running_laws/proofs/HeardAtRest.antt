@@ -23,9 +23,9 @@ use Rattle.machine_laws.proofs.Placing.{control_named, is_laid}
 use Rattle.machine_laws.proofs.Views.{far, fars_are, own_named, views}
 use Rattle.machine_laws.specs.Goal.{others}
 use Rattle.machine_laws.proofs.Written.{sound_setup}
-use Rattle.running_model.specs.Controls.{Controls}
-use Rattle.running_model.specs.Seats.{control_plan}
-use Rattle.running_model.specs.Stands.{message_size}
+use Rattle.running_nodes.specs.Controls.{Controls}
+use Rattle.running_nodes.specs.Seats.{control_plan}
+use Rattle.running_nodes.specs.Stands.{message_size}
 use Rattle.running_laws.proofs.FirstPlaces.{first_is, rest_is, some_nothing}
 use Rattle.running_laws.proofs.Order.{site_sees}
 use Rattle.running_laws.proofs.Parties.{computer, root, site}

@@ -42,25 +42,25 @@ use Rattle.node_model.proofs.Members.{none_some}
 use Rattle.node_core.specs.Beginning as item
 use Rattle.node_core.proofs.Changes.{spelling_of_what_is_told}
 use Rattle.node_core.proofs.Fitting.{without_lists}
-use Rattle.running_model.specs.NodeRoutes.Hearing.{open_octets}
-use Rattle.running_model.specs.NodeRoutes.Told as routes
-use Rattle.running_model.specs.ConfigNode.Beginning as configuration
-use Rattle.running_model.specs.ControlNode.Beginning as control
-use Rattle.running_model.specs.ControlNode.Core.{is_peer}
-use Rattle.running_model.specs.ControlNode.NodeCause.{NodeCause}
-use Rattle.running_model.specs.ControlNode.NodeCause.TheVariants as Cause
-use Rattle.running_model.specs.ControlNode.ControlPlan.{ControlPlan}
-use Rattle.running_model.specs.AgentNode.Beginning as agent
+use Rattle.running_nodes.specs.NodeRoutes.Hearing.{open_octets}
+use Rattle.running_nodes.specs.NodeRoutes.Told as routes
+use Rattle.running_nodes.specs.ConfigNode.Beginning as configuration
+use Rattle.running_nodes.specs.ControlNode.Beginning as control
+use Rattle.running_nodes.specs.ControlNode.Core.{is_peer}
+use Rattle.running_nodes.specs.ControlNode.NodeCause.{NodeCause}
+use Rattle.running_nodes.specs.ControlNode.NodeCause.TheVariants as Cause
+use Rattle.running_nodes.specs.ControlNode.ControlPlan.{ControlPlan}
+use Rattle.running_nodes.specs.AgentNode.Beginning as agent
 use Rattle.machine_laws.specs.MachineModel.Session.{Controller, Role, Message, Open, Keepalive, Hello, Carries, are_peers, is_idle}
 use Rattle.machine_laws.specs.MachineModel.Moments.{HasNumbers, NoneGoesDown, cell}
 use Rattle.machine_laws.specs.MachineModel.Network.{config}
 use Rattle.machine_laws.specs.MachineModel.Setup.{Name, Setup}
-use Rattle.running_model.specs.Controls.{Controls, plan_of}
-use Rattle.running_model.specs.Seats.{Who, Configuring, Controlling, Forwarding, name_of, others_of, role_of, whos}
-use Rattle.running_model.specs.Stands.{octets_of}
-use Rattle.running_model.specs.Steps.{BeginsAt}
-use Rattle.running_model.specs.Taking.{closed, held_after, opened, phase_after, replies_to, replies_to_all, taken, taken_all, took_all, wide_after}
-use Rattle.running_model.specs.Telling.{CanCarryAs, CanSend, IsRecordChange, from_of}
+use Rattle.running_nodes.specs.Controls.{Controls, plan_of}
+use Rattle.running_nodes.specs.Seats.{Who, Configuring, Controlling, Forwarding, name_of, others_of, role_of, whos}
+use Rattle.running_nodes.specs.Stands.{octets_of}
+use Rattle.running_nodes.specs.Steps.{BeginsAt}
+use Rattle.running_nodes.specs.Taking.{closed, held_after, opened, phase_after, replies_to, replies_to_all, taken, taken_all, took_all, wide_after}
+use Rattle.running_nodes.specs.Telling.{CanCarryAs, CanSend, IsRecordChange, from_of}
 use Rattle.running_laws.specs.Hearing.{HasNoCause, IsBetween, IsMessageOf, IsPartial, IsPhaseOf}
 use Rattle.running_laws.proofs.FirstParts.{message_part, record_part, update_says}
 use Rattle.running_laws.proofs.Messages.{SaysRoute, messages_taken}

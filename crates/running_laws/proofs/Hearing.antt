@@ -18,7 +18,7 @@ use Rattle.machine_laws.specs.MachineModel.Setup.{Name, Setup, listed_by}
 use Rattle.machine_laws.specs.MachineModel.Steps.{session_in}
 use Rattle.machine_laws.proofs.MachineModel.Twins.{itself}
 use Rattle.machine_laws.proofs.MachineModel.Distinct.{Apart, same_false}
-use Rattle.running_model.specs.AgentNode.Core.{heard_at, holdings, is_up}
+use Rattle.running_nodes.specs.AgentNode.Core.{heard_at, holdings, is_up}
 
 abbrev pub heard_as : Session → Heard
 heard_as s = record { is_up = is_up_phase s.near.phase; map = s.near.held }

@@ -7,9 +7,9 @@ use Rattle.machine_laws.specs.MachineModel.Session.{Session, turned}
 use Rattle.machine_laws.specs.MachineModel.Network.{MachineState}
 use Rattle.machine_laws.specs.MachineModel.Steps.{session_of}
 use Rattle.machine_laws.proofs.MachineModel.NetworkFact.{found}
-use Rattle.running_model.specs.Seats.{Seat, name_of, seat, seat_named}
-use Rattle.running_model.specs.Stands.{IsEnd, KeepsPart, Seats}
-use Rattle.running_model.specs.declared.place.SessionPlace.{SessionPlace}
+use Rattle.running_nodes.specs.Seats.{Seat, name_of, seat, seat_named}
+use Rattle.running_nodes.specs.Stands.{IsEnd, KeepsPart, Seats}
+use Rattle.running_nodes.specs.declared.place.SessionPlace.{SessionPlace}
 use Rattle.running_laws.specs.Wiring.{HasFar, IsPlace, name_at, other_at}
 use Rattle.running_laws.proofs.Facts.{IsRight, Wired, right_twins}
 use Rattle.running_laws.proofs.Lists.{EndAt, named_by}

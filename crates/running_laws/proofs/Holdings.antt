@@ -15,8 +15,8 @@ use Rattle.machine_laws.specs.MachineModel.Setup.{Name}
 use Rattle.machine_laws.specs.MachineModel.Steps.{session_in, session_of}
 use Rattle.machine_laws.specs.Goal.{Party}
 use Rattle.machine_laws.proofs.Views.{far, views}
-use Rattle.running_model.specs.Controls.{Controls, holdings}
-use Rattle.running_model.specs.Seats.{no_node}
+use Rattle.running_nodes.specs.Controls.{Controls, holdings}
+use Rattle.running_nodes.specs.Seats.{no_node}
 use Rattle.running_laws.proofs.FirstPlaces.{first_is, rest_is, some_nothing}
 use Rattle.running_laws.proofs.Parties.{computer, root, site}
 use Rattle.running_laws.proofs.Positions.{told_from}

@@ -5,7 +5,7 @@ use Rattle.machine_laws.specs.MachineModel.Network.{MachineState}
 use Rattle.machine_laws.proofs.MachineModel.EveryMoment.{joined_is}
 use Rattle.machine_laws.proofs.MachineModel.SessionFact.{Fact}
 use Rattle.machine_laws.proofs.MachineModel.Twins.{each_weaker}
-use Rattle.running_model.specs.Stands.{message_size}
+use Rattle.running_nodes.specs.Stands.{message_size}
 use Rattle.running_laws.specs.Moments.{IsMoment}
 use Rattle.running_laws.proofs.Moments.{moment_sound}
 

@@ -14,11 +14,11 @@ use Rattle.node_model.specs.Members.{Member}
 use Rattle.machine_laws.specs.MachineModel.Setup.{Name, has_name, without_agent}
 use Rattle.machine_laws.specs.MachineModel.Network.{config}
 use Rattle.machine_laws.proofs.MachineModel.Distinct.{Apart, same_false}
-use Rattle.running_model.specs.Controls.{Controls}
-use Rattle.running_model.specs.Moving.{came, left_all, left_at, retired_of, vacated, vacated_from}
-use Rattle.running_model.specs.Seats.{Configuring, Controlling, Forwarding, Seat, Who, index_from, is_name, name_of, name_there, names_of}
-use Rattle.running_model.specs.Seats.{nobody, others_of, seat, seat_named}
-use Rattle.running_model.specs.Steps.{with_seat}
+use Rattle.running_nodes.specs.Controls.{Controls}
+use Rattle.running_nodes.specs.Moving.{came, left_all, left_at, retired_of, vacated, vacated_from}
+use Rattle.running_nodes.specs.Seats.{Configuring, Controlling, Forwarding, Seat, Who, index_from, is_name, name_of, name_there, names_of}
+use Rattle.running_nodes.specs.Seats.{nobody, others_of, seat, seat_named}
+use Rattle.running_nodes.specs.Steps.{with_seat}
 use Rattle.running_laws.proofs.FirstPlaces.{at_map, index_found, index_here}
 use Rattle.running_laws.proofs.Lists.{index_map, seat_elsewhere, seat_here}
 use Rattle.running_laws.proofs.Resettled.{resettled_seat}

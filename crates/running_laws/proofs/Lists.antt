@@ -13,11 +13,11 @@ use Rattle.ov_types.specs.First.{same_name}
 use Rattle.node_model.specs.Step.{nothing}
 use Rattle.machine_laws.specs.MachineModel.Setup.{Name}
 use Rattle.machine_laws.specs.MachineModel.Network.{MachineState}
-use Rattle.running_model.specs.Seats.{Seat, far_of, index_from, is_name, name_of, nobody, other, others_of, place_at, place_of}
-use Rattle.running_model.specs.Seats.{seat, seat_named, session_with}
-use Rattle.running_model.specs.Stands.{HasEnd, IsLong, IsVacant, Seats}
-use Rattle.running_model.specs.Steps.{with_seat}
-use Rattle.running_model.specs.declared.place.SessionPlace.{SessionPlace}
+use Rattle.running_nodes.specs.Seats.{Seat, far_of, index_from, is_name, name_of, nobody, other, others_of, place_at, place_of}
+use Rattle.running_nodes.specs.Seats.{seat, seat_named, session_with}
+use Rattle.running_nodes.specs.Stands.{HasEnd, IsLong, IsVacant, Seats}
+use Rattle.running_nodes.specs.Steps.{with_seat}
+use Rattle.running_nodes.specs.declared.place.SessionPlace.{SessionPlace}
 use Rattle.running_laws.specs.Wiring.{IsPlace, name_at, other_at}
 
 -- ---- seats

@@ -13,10 +13,10 @@ use Rattle.machine_laws.specs.MachineModel.Session.{Session, lost, turned}
 use Rattle.machine_laws.specs.MachineModel.Network.{MachineState}
 use Rattle.machine_laws.specs.MachineModel.Steps.{change_session, session_of}
 use Rattle.machine_laws.specs.MachineModel.Events.{Lose, answer_to, lose, next, unless}
-use Rattle.running_model.specs.Seats.{Seat, is_down_at, link_at, notice_at, others_of, place_of, seat}
-use Rattle.running_model.specs.Steps.{with_link, with_notice}
-use Rattle.running_model.specs.Stands.{IsLong, Seats, StandsFor, message_size}
-use Rattle.running_model.specs.declared.place.SessionPlace.{SessionPlace}
+use Rattle.running_nodes.specs.Seats.{Seat, is_down_at, link_at, notice_at, others_of, place_of, seat}
+use Rattle.running_nodes.specs.Steps.{with_link, with_notice}
+use Rattle.running_nodes.specs.Stands.{IsLong, Seats, StandsFor, message_size}
+use Rattle.running_nodes.specs.declared.place.SessionPlace.{SessionPlace}
 use Rattle.running_laws.specs.Moments.{IsMoment}
 use Rattle.running_laws.specs.Wiring.{IsPlace, name_at, other_at}
 use Rattle.running_laws.specs.Asking.{AreAt}

@@ -7,10 +7,10 @@ use Rattle.std.proofs.Common.{refl, sym, ◌∙◌, ap, subst, inl, inr}
 use Rattle.node_model.specs.Step.{Post}
 use Rattle.machine_laws.specs.MachineModel.Session.{SessionEnd, Session, is_live, is_peering, noticed, closed}
 use Rattle.node_model.specs.Step.{nothing, post}
-use Rattle.running_model.specs.Seats.{Seat, breaks_in, kept_in, link, link_at, notice, notice_at, seat}
-use Rattle.running_model.specs.Steps.{with_link, with_notice, with_seat}
-use Rattle.running_model.specs.Stands.{IsEnd, octets_of}
-use Rattle.running_model.specs.declared.place.SessionPlace.{SessionPlace}
+use Rattle.running_nodes.specs.Seats.{Seat, breaks_in, kept_in, link, link_at, notice, notice_at, seat}
+use Rattle.running_nodes.specs.Steps.{with_link, with_notice, with_seat}
+use Rattle.running_nodes.specs.Stands.{IsEnd, octets_of}
+use Rattle.running_nodes.specs.declared.place.SessionPlace.{SessionPlace}
 use Rattle.running_laws.proofs.Building.{AllBut, Stays, put_but, stays_refl, stored_link, stored_notice}
 use Rattle.running_laws.proofs.Lists.{seat_elsewhere, seat_here}
 

@@ -2,8 +2,8 @@
 use Rattle.std.specs.Prelude.{◌<◌, ℕ, zero, suc, List, [], ◌∷◌, map, length}
 use Rattle.std.proofs.Common.{refl, subst, inl, inr, arith}
 use Rattle.node_model.specs.Members.{Member}
-use Rattle.running_model.specs.Seats.{Seat, seat, whos}
-use Rattle.running_model.specs.Stands.{Seats}
+use Rattle.running_nodes.specs.Seats.{Seat, seat, whos}
+use Rattle.running_nodes.specs.Stands.{Seats}
 use Rattle.machine_laws.specs.MachineModel.Network.{MachineState}
 
 member_who : (seats : List Seat) (k : ℕ) → k < length seats → Member (seat seats k).who (map (λ (n : Seat). n.who) seats)

@@ -18,15 +18,15 @@ use Rattle.machine_laws.specs.MachineModel.Moments.{IsJoined, NoneGoesDown, cell
 use Rattle.machine_laws.proofs.MachineModel.NetworkFact.{with_session_keeps}
 use Rattle.machine_laws.proofs.MachineModel.NodesFact.{arrived_nodes}
 use Rattle.machine_laws.proofs.MachineModel.SessionFact.{Fact, Fact-turned, are_peers-turned, arrived_keeps}
-use Rattle.running_model.specs.Seats.{Seat, kept_at, kept_in, link, link_at, name_of, notice_at, role_of, seat}
-use Rattle.running_model.specs.Steps.{BeginsAt, Takes, cleared, with_link, with_seat}
-use Rattle.running_model.specs.Stands.{IsEnd, Seats, first_of, message_size, octets_of}
-use Rattle.running_model.specs.Taking.{held_after, replies_to, taken, wide_after}
-use Rattle.running_model.specs.Telling.{CanSend}
-use Rattle.running_model.specs.declared.place.SessionPlace.{SessionPlace}
+use Rattle.running_nodes.specs.Seats.{Seat, kept_at, kept_in, link, link_at, name_of, notice_at, role_of, seat}
+use Rattle.running_nodes.specs.Steps.{BeginsAt, Takes, cleared, with_link, with_seat}
+use Rattle.running_nodes.specs.Stands.{IsEnd, Seats, first_of, message_size, octets_of}
+use Rattle.running_nodes.specs.Taking.{held_after, replies_to, taken, wide_after}
+use Rattle.running_nodes.specs.Telling.{CanSend}
+use Rattle.running_nodes.specs.declared.place.SessionPlace.{SessionPlace}
 use Rattle.running_laws.specs.Moments.{IsMoment}
 use Rattle.running_laws.specs.Wiring.{IsPlace, name_at, other_at}
-use Rattle.running_model.proofs.Sizes.{positive}
+use Rattle.running_nodes.proofs.Sizes.{positive}
 use Rattle.running_laws.proofs.Arriving.{live_after}
 use Rattle.running_laws.proofs.AtMoments.{IsSound, found_heard, found_joined, moment_right, moment_sound}
 use Rattle.running_laws.proofs.Building.{AllBut, IsPart, fit_but, part_at, part_none}

@@ -23,20 +23,20 @@ use Rattle.node_model.specs.Maps.{Change, Map}
 use Rattle.node_model.specs.Step.{Beginning, Phase, Idle, Opened, Confirmed, Up, Post}
 use Rattle.node_model.specs.Values.{Route}
 use Rattle.node_model.proofs.Members.{none_some}
-use Rattle.running_model.specs.NodeRoutes.Beginning as route
-use Rattle.running_model.specs.NodeRoutes.First.{BringFirst}
-use Rattle.running_model.specs.NodeRoutes.Hearing.{heard, open_octets}
-use Rattle.running_model.specs.NodeRoutes.Keeping.{Leaves}
-use Rattle.running_model.specs.NodeRoutes.Told as routes
-use Rattle.running_model.proofs.NodeRoutes.Cutting.{leaves_one}
-use Rattle.running_model.proofs.NodeRoutes.One.{keepalive_first, open_first, update_first}
-use Rattle.running_model.specs.ControlNode.Beginning.{peer_state}
+use Rattle.running_nodes.specs.NodeRoutes.Beginning as route
+use Rattle.running_nodes.specs.NodeRoutes.First.{BringFirst}
+use Rattle.running_nodes.specs.NodeRoutes.Hearing.{heard, open_octets}
+use Rattle.running_nodes.specs.NodeRoutes.Keeping.{Leaves}
+use Rattle.running_nodes.specs.NodeRoutes.Told as routes
+use Rattle.running_nodes.proofs.NodeRoutes.Cutting.{leaves_one}
+use Rattle.running_nodes.proofs.NodeRoutes.One.{keepalive_first, open_first, update_first}
+use Rattle.running_nodes.specs.ControlNode.Beginning.{peer_state}
 use Rattle.machine_laws.specs.MachineModel.Session.{Message, Open, Keepalive, Hello, Carries, is_idle}
 use Rattle.machine_laws.specs.MachineModel.Moments.{NoneGoesDown}
-use Rattle.running_model.specs.Seats.{Who}
-use Rattle.running_model.specs.Stands.{octets_of}
-use Rattle.running_model.specs.Taking.{replies_to_all, taken_all, took_all}
-use Rattle.running_model.specs.Telling.{IsRouteChange}
+use Rattle.running_nodes.specs.Seats.{Who}
+use Rattle.running_nodes.specs.Stands.{octets_of}
+use Rattle.running_nodes.specs.Taking.{replies_to_all, taken_all, took_all}
+use Rattle.running_nodes.specs.Telling.{IsRouteChange}
 
 -- what these octets say on a session of this system with the peer of this address
 abbrev pub SaysRoute : ℕ → Addr → Message → List ℕ → Type 0

@@ -32,8 +32,8 @@ use Rattle.machine_laws.proofs.EachFact.{Keeps, after_keeps, edit_valid, edits_v
 use Rattle.machine_laws.proofs.Final.{laid_out}
 use Rattle.machine_laws.specs.Headline.{IsOfForm, IsWritten}
 use Rattle.machine_laws.proofs.Written.{edits_keep, sound_setup}
-use Rattle.running_model.specs.Stands.{message_size}
-use Rattle.running_model.proofs.Sizes.{positive}
+use Rattle.running_nodes.specs.Stands.{message_size}
+use Rattle.running_nodes.proofs.Sizes.{positive}
 use Rattle.running_laws.specs.Moments.{AreValidMoves, IsMoment, IsValidMove, after_moves, moved, unbroken}
 
 -- ---- what every move keeps

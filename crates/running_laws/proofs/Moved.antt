@@ -25,10 +25,10 @@ use Rattle.machine_laws.proofs.MachineModel.Changing.{found_member}
 use Rattle.machine_laws.proofs.MachineModel.Distinct.{Apart, apart_right, same_false}
 use Rattle.machine_laws.specs.Headline.{IsOfForm}
 use Rattle.running_laws.proofs.Named.{AreNodes, are_nodes}
-use Rattle.running_model.specs.Seats.{Who, Configuring, Controlling, Seat, control_plan, controller_named, index_from, is_name, name_there, names_of}
-use Rattle.running_model.specs.Seats.{name_of, nobody, seat}
-use Rattle.running_model.specs.Moving.{Moves, before_passes, came, reseated, seats_of}
-use Rattle.running_model.specs.Stands.{Seats}
+use Rattle.running_nodes.specs.Seats.{Who, Configuring, Controlling, Seat, control_plan, controller_named, index_from, is_name, name_there, names_of}
+use Rattle.running_nodes.specs.Seats.{name_of, nobody, seat}
+use Rattle.running_nodes.specs.Moving.{Moves, before_passes, came, reseated, seats_of}
+use Rattle.running_nodes.specs.Stands.{Seats}
 use Rattle.running_laws.specs.Moments.{IsMoment}
 use Rattle.running_laws.proofs.FirstPlaces.{member_of_at}
 use Rattle.running_laws.proofs.AtMoments.{moment_right}

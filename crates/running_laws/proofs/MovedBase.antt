@@ -35,12 +35,12 @@ use Rattle.machine_laws.proofs.MachineModel.Distinct.{Apart, apart_of, apart_rig
 use Rattle.machine_laws.proofs.MachineModel.NetworkFact.{found}
 use Rattle.machine_laws.specs.Headline.{IsOfForm}
 use Rattle.machine_laws.proofs.Names.{is_named}
-use Rattle.running_model.specs.Seats.{Who, Configuring, Controlling, Forwarding, Seat, agent_plan, control_plan, far_of, name_of, nobody}
-use Rattle.running_model.specs.Seats.{other, others_of, place_at, place_of, role_of, seat, session_with, whos}
-use Rattle.running_model.specs.Moving.{is_agent_named, reseated, seats_of}
-use Rattle.running_model.specs.Steps.{fresh_seat}
-use Rattle.running_model.specs.Stands.{IsEnd, IsLong, IsVacant, KeepsPart, Seats, octets_of}
-use Rattle.running_model.specs.declared.place.SessionPlace.{SessionPlace}
+use Rattle.running_nodes.specs.Seats.{Who, Configuring, Controlling, Forwarding, Seat, agent_plan, control_plan, far_of, name_of, nobody}
+use Rattle.running_nodes.specs.Seats.{other, others_of, place_at, place_of, role_of, seat, session_with, whos}
+use Rattle.running_nodes.specs.Moving.{is_agent_named, reseated, seats_of}
+use Rattle.running_nodes.specs.Steps.{fresh_seat}
+use Rattle.running_nodes.specs.Stands.{IsEnd, IsLong, IsVacant, KeepsPart, Seats, octets_of}
+use Rattle.running_nodes.specs.declared.place.SessionPlace.{SessionPlace}
 use Rattle.running_laws.specs.Moments.{IsMoment}
 use Rattle.running_laws.specs.Wiring.{IsPlace, name_at, other_at}
 use Rattle.running_laws.proofs.FirstPlaces.{at_of_member, member_of_at}

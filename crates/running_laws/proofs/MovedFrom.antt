@@ -14,7 +14,7 @@ use Rattle.node_model.specs.Members.{Member}
 use Rattle.node_model.proofs.Members.{in_map}
 use Rattle.machine_laws.specs.MachineModel.Setup.{Name, without_agent}
 use Rattle.machine_laws.proofs.MachineModel.Distinct.{Apart, same_false}
-use Rattle.running_model.specs.Seats.{index_from, is_name, name_there, names_of, no_node}
+use Rattle.running_nodes.specs.Seats.{index_from, is_name, name_there, names_of, no_node}
 
 -- ---- names
 -- others than these nodes'

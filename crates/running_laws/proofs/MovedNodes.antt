@@ -31,9 +31,9 @@ use Rattle.machine_laws.specs.MachineModel.Moments.{NumbersFit}
 use Rattle.machine_laws.proofs.MachineModel.Asking.{apart_others, contains_of}
 use Rattle.machine_laws.proofs.MachineModel.Changing.{not_missing}
 use Rattle.machine_laws.proofs.MachineModel.Distinct.{Apart, same_false}
-use Rattle.running_model.specs.Controls.{Controls}
-use Rattle.running_model.specs.Seats.{Who, Configuring, Controlling, Forwarding, Seat, agent_plan, control_plan, name_of, role_of, seat, whos}
-use Rattle.running_model.specs.Moving.{is_agent_named, is_listed_who, joined_by, reseated, retired_of, seats_of, vacated}
+use Rattle.running_nodes.specs.Controls.{Controls}
+use Rattle.running_nodes.specs.Seats.{Who, Configuring, Controlling, Forwarding, Seat, agent_plan, control_plan, name_of, role_of, seat, whos}
+use Rattle.running_nodes.specs.Moving.{is_agent_named, is_listed_who, joined_by, reseated, retired_of, seats_of, vacated}
 use Rattle.running_laws.proofs.Resettled.{resettled_seat, resettled_seats}
 
 -- ---- the nodes of the topology

@@ -17,8 +17,8 @@ use Rattle.machine_laws.proofs.MachineModel.NodesFact.{pass_nodes, passes_nodes,
 use Rattle.machine_laws.proofs.MachineModel.Replaced.{each_brought, each_replaced}
 use Rattle.machine_laws.proofs.MachineModel.SessionFact.{Fact, Fact-turned, passed_keeps}
 use Rattle.machine_laws.specs.Headline.{IsOfForm, IsWritten}
-use Rattle.running_model.specs.Stands.{message_size}
-use Rattle.running_model.proofs.Sizes.{positive}
+use Rattle.running_nodes.specs.Stands.{message_size}
+use Rattle.running_nodes.proofs.Sizes.{positive}
 use Rattle.running_laws.specs.Moments.{IsMoment}
 use Rattle.running_laws.specs.Wiring.{HasNumbers}
 use Rattle.running_laws.proofs.AtMoments.{IsSound, all_quiet, moment_sound}

@@ -12,16 +12,16 @@ use Rattle.ov_types.specs.First.{same_name}
 use Rattle.ov_types.specs.declared.rows.NodeId.{NodeId}
 use Rattle.config_types.specs.declared.topology.Node.{Node}
 use Rattle.config_types.specs.declared.topology.Topology.{Topology}
-use Rattle.running_model.specs.ControlNode.Agents.{put_at}
+use Rattle.running_nodes.specs.ControlNode.Agents.{put_at}
 use Rattle.node_model.specs.Step.{nothing}
 use Rattle.machine_laws.specs.MachineModel.Setup.{Name, id_of, with_agent, without_agent}
 use Rattle.machine_laws.specs.MachineModel.Network.{config}
-use Rattle.running_model.specs.Controls.{Controls}
-use Rattle.running_model.specs.Seats.{Who, Configuring, Controlling, Forwarding, Seat, agent_plan, index_from, is_name, name_there, names_of, other}
-use Rattle.running_model.specs.Seats.{others_of, session_with}
-use Rattle.running_model.specs.Moving.{is_listed_who, joined_at, joined_by, number_for, number_in, retired_of, vacated, vacated_from}
-use Rattle.running_model.specs.Steps.{all_of, fresh_seat}
-use Rattle.running_model.specs.Stands.{IsLong, IsVacant}
+use Rattle.running_nodes.specs.Controls.{Controls}
+use Rattle.running_nodes.specs.Seats.{Who, Configuring, Controlling, Forwarding, Seat, agent_plan, index_from, is_name, name_there, names_of, other}
+use Rattle.running_nodes.specs.Seats.{others_of, session_with}
+use Rattle.running_nodes.specs.Moving.{is_listed_who, joined_at, joined_by, number_for, number_in, retired_of, vacated, vacated_from}
+use Rattle.running_nodes.specs.Steps.{all_of, fresh_seat}
+use Rattle.running_nodes.specs.Stands.{IsLong, IsVacant}
 use Rattle.running_laws.proofs.Building.{SameEnd, end_trans, vacant_same}
 use Rattle.running_laws.proofs.Resettled.{resettled_seat}
 use Rattle.running_laws.proofs.FirstPlaces.{index_found}

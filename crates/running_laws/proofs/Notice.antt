@@ -14,14 +14,14 @@ use Rattle.machine_laws.specs.MachineModel.Steps.{change_session, deliver, in_fl
 use Rattle.machine_laws.proofs.MachineModel.NetworkFact.{with_session_keeps}
 use Rattle.machine_laws.proofs.MachineModel.NodesFact.{arrived_nodes}
 use Rattle.machine_laws.proofs.MachineModel.SessionFact.{Down, Fact, Fact-turned, arrived_keeps}
-use Rattle.running_model.specs.Seats.{Seat, kept_in, name_of, notice_at, seat}
-use Rattle.running_model.specs.Steps.{Takes, cleared, with_notice, with_seat}
-use Rattle.running_model.specs.Stands.{IsEnd, Seats, message_size, octets_of}
-use Rattle.running_model.specs.Taking.{closed}
-use Rattle.running_model.specs.declared.place.SessionPlace.{SessionPlace}
+use Rattle.running_nodes.specs.Seats.{Seat, kept_in, name_of, notice_at, seat}
+use Rattle.running_nodes.specs.Steps.{Takes, cleared, with_notice, with_seat}
+use Rattle.running_nodes.specs.Stands.{IsEnd, Seats, message_size, octets_of}
+use Rattle.running_nodes.specs.Taking.{closed}
+use Rattle.running_nodes.specs.declared.place.SessionPlace.{SessionPlace}
 use Rattle.running_laws.specs.Moments.{IsMoment}
 use Rattle.running_laws.specs.Wiring.{IsPlace, name_at, other_at}
-use Rattle.running_model.proofs.Sizes.{positive}
+use Rattle.running_nodes.proofs.Sizes.{positive}
 use Rattle.running_laws.proofs.AtMoments.{IsSound, found_sound, moment_right, moment_sound}
 use Rattle.running_laws.proofs.Building.{AllBut, IsPart, fit_but, part_none}
 use Rattle.running_laws.proofs.Facts.{Facts, IsRight}

@@ -23,17 +23,17 @@ use Rattle.machine_laws.specs.MachineModel.Moments.{IsJoined, IsPartly, NoneGoes
 use Rattle.machine_laws.proofs.MachineModel.NetworkFact.{with_session_keeps}
 use Rattle.machine_laws.proofs.MachineModel.NodesFact.{octets_nodes}
 use Rattle.machine_laws.proofs.MachineModel.SessionFact.{Fact, Fact-turned, are_peers-turned, octets_arrived_keeps}
-use Rattle.running_model.specs.Seats.{Seat, Who, kept_at, kept_in, link, link_at, name_of, notice_at, role_of, seat}
-use Rattle.running_model.specs.Steps.{BeginsAt, Takes, cleared, untaken, with_link, with_seat}
-use Rattle.running_model.specs.Stands.{IsEnd, Seats, StandsFor, first_of, message_size, octets_of}
-use Rattle.running_model.specs.Taking.{replies_to_all, taken_all, took_all}
-use Rattle.running_model.specs.Telling.{CanSend}
-use Rattle.running_model.specs.declared.place.SessionPlace.{SessionPlace}
+use Rattle.running_nodes.specs.Seats.{Seat, Who, kept_at, kept_in, link, link_at, name_of, notice_at, role_of, seat}
+use Rattle.running_nodes.specs.Steps.{BeginsAt, Takes, cleared, untaken, with_link, with_seat}
+use Rattle.running_nodes.specs.Stands.{IsEnd, Seats, StandsFor, first_of, message_size, octets_of}
+use Rattle.running_nodes.specs.Taking.{replies_to_all, taken_all, took_all}
+use Rattle.running_nodes.specs.Telling.{CanSend}
+use Rattle.running_nodes.specs.declared.place.SessionPlace.{SessionPlace}
 use Rattle.running_laws.specs.Hearing.{IsMessageOf, IsPartial, IsPhaseOf}
 use Rattle.running_laws.proofs.HeardEnds.{message_of, phase_of_cell}
 use Rattle.running_laws.specs.Moments.{IsMoment}
 use Rattle.running_laws.specs.Wiring.{HasFar, HasSession, IsPlace, IsPlaceOf, name_at, other_at}
-use Rattle.running_model.proofs.Sizes.{positive}
+use Rattle.running_nodes.proofs.Sizes.{positive}
 use Rattle.running_laws.specs.Delivering.{NoticesCountAsOctets, OctetsAreDelivered, TakesAt}
 use Rattle.running_laws.proofs.Arriving.{live_after, octets_taken, rest_of, still, taken_of, unanswered, whole_of}
 use Rattle.running_laws.proofs.AtMoments.{IsSound, found_heard, found_joined, found_sound, moment_right, moment_sound, stands_at}

@@ -18,10 +18,10 @@ use Rattle.machine_laws.specs.MachineModel.Moments.{Each, NodePair, nodes}
 use Rattle.machine_laws.proofs.MachineModel.NetworkFact.{found}
 use Rattle.machine_laws.proofs.MachineModel.SessionFact.{Fact, Fact-turned, greetings}
 use Rattle.machine_laws.proofs.MachineModel.Twins.{Found, found_each}
-use Rattle.running_model.specs.Seats.{Configuring, Controlling, Forwarding, Seat, Who, agent_plan, control_plan, place_of, seat, whos}
-use Rattle.running_model.specs.Stands.{IsDownWhere, IsEnd, StandsFor, message_size, octets_of}
-use Rattle.running_model.specs.Telling.{CanBeHeard, CanSend, from_of}
-use Rattle.running_model.specs.declared.place.SessionPlace.{SessionPlace}
+use Rattle.running_nodes.specs.Seats.{Configuring, Controlling, Forwarding, Seat, Who, agent_plan, control_plan, place_of, seat, whos}
+use Rattle.running_nodes.specs.Stands.{IsDownWhere, IsEnd, StandsFor, message_size, octets_of}
+use Rattle.running_nodes.specs.Telling.{CanBeHeard, CanSend, from_of}
+use Rattle.running_nodes.specs.declared.place.SessionPlace.{SessionPlace}
 use Rattle.running_laws.specs.Moments.{IsMoment}
 use Rattle.running_laws.specs.Wiring.{IsPlace, name_at, other_at}
 use Rattle.running_laws.specs.OneState.{SeatsStandForOneState}

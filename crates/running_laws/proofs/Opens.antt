@@ -17,11 +17,11 @@ use Rattle.machine_laws.proofs.MachineModel.Deeds.{others_stay}
 use Rattle.machine_laws.proofs.MachineModel.NetworkFact.{nodes_keep, opened_nodes, with_session_keeps}
 use Rattle.machine_laws.proofs.MachineModel.NodesFact.{pass_nodes}
 use Rattle.machine_laws.proofs.MachineModel.SessionFact.{IsTidy, sends, shut_down}
-use Rattle.running_model.specs.Seats.{Seat, kept_in, kind_of, notice, role_of, seat}
-use Rattle.running_model.specs.Steps.{IsStepped, Sending, Takes, end_after, reply_fails, sending, sent_on, with_seat}
-use Rattle.running_model.specs.Stands.{IsEnd, Seats, octets_of}
-use Rattle.running_model.specs.Taking.{opened as opened_by}
-use Rattle.running_model.specs.declared.place.SessionPlace.{SessionPlace}
+use Rattle.running_nodes.specs.Seats.{Seat, kept_in, kind_of, notice, role_of, seat}
+use Rattle.running_nodes.specs.Steps.{IsStepped, Sending, Takes, end_after, reply_fails, sending, sent_on, with_seat}
+use Rattle.running_nodes.specs.Stands.{IsEnd, Seats, octets_of}
+use Rattle.running_nodes.specs.Taking.{opened as opened_by}
+use Rattle.running_nodes.specs.declared.place.SessionPlace.{SessionPlace}
 use Rattle.running_laws.specs.Wiring.{IsPlace, name_at, other_at}
 use Rattle.running_laws.proofs.Building.{IsPart, SameEnd, end_refl, moved, part_at, part_none}
 use Rattle.running_laws.proofs.Changing.{changed_right}

@@ -21,7 +21,7 @@ use Rattle.machine_laws.specs.MachineModel.Setup.{Name, Setup, checked, id_of}
 use Rattle.machine_laws.specs.Goal.{Party}
 use Rattle.machine_laws.specs.Setups.{IsNamed}
 use Rattle.machine_laws.proofs.MachineModel.Distinct.{same_false}
-use Rattle.running_model.specs.Seats.{Configuring, Controlling, Forwarding, Who, agent_plan, control_plan, controller_named, name_of, name_there, no_node, others_of, role_of, whos}
+use Rattle.running_nodes.specs.Seats.{Configuring, Controlling, Forwarding, Who, agent_plan, control_plan, controller_named, name_of, name_there, no_node, others_of, role_of, whos}
 use Rattle.running_laws.proofs.FirstPlaces.{map_twice}
 
 -- ---- the ends of sessions

@@ -10,10 +10,10 @@ use Rattle.machine_laws.specs.MachineModel.Setup.{Name}
 use Rattle.machine_laws.specs.MachineModel.Network.{MachineState, config}
 use Rattle.machine_laws.specs.MachineModel.Events.{passes}
 use Rattle.machine_laws.specs.MachineModel.Steps.{pass}
-use Rattle.running_model.specs.Moving.{PassesAll, PassesAt}
-use Rattle.running_model.specs.Seats.{Controlling, Forwarding, Seat, Who, agent_plan, control_plan, name_of, nobody, others_of, seat, seat_named}
-use Rattle.running_model.specs.Stands.{Seats}
-use Rattle.running_model.specs.Steps.{cleared, with_seat}
+use Rattle.running_nodes.specs.Moving.{PassesAll, PassesAt}
+use Rattle.running_nodes.specs.Seats.{Controlling, Forwarding, Seat, Who, agent_plan, control_plan, name_of, nobody, others_of, seat, seat_named}
+use Rattle.running_nodes.specs.Stands.{Seats}
+use Rattle.running_nodes.specs.Steps.{cleared, with_seat}
 use Rattle.running_laws.specs.Wiring.{IsPlace}
 use Rattle.running_laws.proofs.Anew.{told_anew}
 use Rattle.running_laws.proofs.AtMoments.{IsSound}

@@ -18,10 +18,10 @@ use Rattle.machine_laws.specs.MachineModel.Steps.{pass, session_of}
 use Rattle.machine_laws.specs.MachineModel.Moments.{nodes}
 use Rattle.machine_laws.proofs.MachineModel.NetworkFact.{passed_nodes}
 use Rattle.machine_laws.proofs.MachineModel.SessionFact.{Down}
-use Rattle.running_model.specs.Seats.{Seat, breaks_in, far_of, kind_of, name_of, seat, seat_named}
-use Rattle.running_model.specs.Steps.{sending}
-use Rattle.running_model.specs.Stands.{IsEnd, KeepsPart, Seats, octets_of}
-use Rattle.running_model.specs.declared.place.SessionPlace.{SessionPlace}
+use Rattle.running_nodes.specs.Seats.{Seat, breaks_in, far_of, kind_of, name_of, seat, seat_named}
+use Rattle.running_nodes.specs.Steps.{sending}
+use Rattle.running_nodes.specs.Stands.{IsEnd, KeepsPart, Seats, octets_of}
+use Rattle.running_nodes.specs.declared.place.SessionPlace.{SessionPlace}
 use Rattle.running_laws.specs.Wiring.{GoesBy, IsPlace, name_at, other_at}
 use Rattle.running_laws.proofs.Building.{SameEnd, end_refl, has_end, moved, part_at, part_of, part_same, seats_by_places}
 use Rattle.running_laws.proofs.Clearing.{place}

@@ -12,10 +12,10 @@ use Rattle.node_model.specs.Step.{Post, post}
 use Rattle.node_model.proofs.Members.{none_some}
 use Rattle.machine_laws.specs.MachineModel.Session.{Controller}
 use Rattle.machine_laws.specs.Goal.{Party}
-use Rattle.running_model.specs.ControlNode.Core.{is_peer}
-use Rattle.running_model.specs.ControlWants.Held.{told_in}
-use Rattle.running_model.specs.Controls.{Controls, plan_of, told_at}
-use Rattle.running_model.specs.Seats.{Controlling, name_there, names_of}
+use Rattle.running_nodes.specs.ControlNode.Core.{is_peer}
+use Rattle.running_nodes.specs.ControlWants.Held.{told_in}
+use Rattle.running_nodes.specs.Controls.{Controls, plan_of, told_at}
+use Rattle.running_nodes.specs.Seats.{Controlling, name_there, names_of}
 use Rattle.running_laws.proofs.FirstPlaces.{mapped_length, shifted}
 use Rattle.running_laws.proofs.Parties.{client, parties_of, site, with_client, with_site}
 

@@ -12,8 +12,8 @@ use Rattle.machine_laws.specs.MachineModel.Steps.{session_in, session_of}
 use Rattle.machine_laws.proofs.MachineModel.Twins.{Found, all_to_own, each_and}
 use Rattle.machine_laws.specs.Goal.{Party}
 use Rattle.machine_laws.proofs.Views.{own_named}
-use Rattle.running_model.specs.Seats.{Seat, Who, name_of, others_of, role_of, seat}
-use Rattle.running_model.specs.Stands.{Seats}
+use Rattle.running_nodes.specs.Seats.{Seat, Who, name_of, others_of, role_of, seat}
+use Rattle.running_nodes.specs.Stands.{Seats}
 use Rattle.running_laws.proofs.Holdings.{IsSeen, Same}
 use Rattle.running_laws.proofs.Parties.{parties_of}
 use Rattle.running_laws.proofs.VacantNames.{some_within}

@@ -13,11 +13,11 @@ use Rattle.node_model.specs.Members.{Member}
 use Rattle.machine_laws.specs.MachineModel.Setup.{Name}
 use Rattle.machine_laws.specs.MachineModel.Network.{config}
 use Rattle.machine_laws.proofs.MachineModel.Distinct.{same_false}
-use Rattle.running_model.specs.Moving.{PassesAll, PassesAt}
-use Rattle.running_model.specs.Seats.{Configuring, Seat, far_of, index_from, is_down_at, is_name, live_at, name_of, names_of, other, others_of}
-use Rattle.running_model.specs.Seats.{place_at, place_of, seat, seat_named, whole_at, whole_there}
-use Rattle.running_model.specs.Steps.{Passes, cleared, cleared_at, cleared_from, told_of_loss, with_link, with_notice, with_seat}
-use Rattle.running_model.specs.declared.place.SessionPlace.{SessionPlace}
+use Rattle.running_nodes.specs.Moving.{PassesAll, PassesAt}
+use Rattle.running_nodes.specs.Seats.{Configuring, Seat, far_of, index_from, is_down_at, is_name, live_at, name_of, names_of, other, others_of}
+use Rattle.running_nodes.specs.Seats.{place_at, place_of, seat, seat_named, whole_at, whole_there}
+use Rattle.running_nodes.specs.Steps.{Passes, cleared, cleared_at, cleared_from, told_of_loss, with_link, with_notice, with_seat}
+use Rattle.running_nodes.specs.declared.place.SessionPlace.{SessionPlace}
 use Rattle.running_laws.proofs.Clearing.{place}
 
 -- the configuration node has what is valid then, and did nothing yet

@@ -29,11 +29,11 @@ use Rattle.node_core.specs.Told as items
 use Rattle.node_core.proofs.Changes.{change_of_what_is_told}
 use Rattle.node_core.proofs.Cutting.{leaves_one}
 use Rattle.node_core.proofs.Records.{change_heard, hello_heard}
-use Rattle.running_model.specs.ControlNode.Beginning.{item_state}
+use Rattle.running_nodes.specs.ControlNode.Beginning.{item_state}
 use Rattle.machine_laws.specs.MachineModel.Session.{Message, Hello, Carries, is_idle}
 use Rattle.machine_laws.specs.MachineModel.Moments.{NoneGoesDown}
-use Rattle.running_model.specs.Taking.{took_all}
-use Rattle.running_model.specs.Telling.{IsRecordChange}
+use Rattle.running_nodes.specs.Taking.{took_all}
+use Rattle.running_nodes.specs.Telling.{IsRecordChange}
 use Rattle.running_laws.specs.Hearing.{IsPhaseOf}
 
 -- what these octets say on a session with this node, which may send these records

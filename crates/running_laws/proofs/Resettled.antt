@@ -9,9 +9,9 @@ use Rattle.schedule_script.specs.ConfigCheck.Checked.{Checked}
 use Rattle.schedule_script.specs.ConfigCheck.Edits as config_edits
 use Rattle.machine_laws.specs.MachineModel.Setup.{Move, Name, Setup, checked, id_of, moves, remade, renumbered}
 use Rattle.machine_laws.specs.MachineModel.Network.{MachineState, brought, replaced}
-use Rattle.running_model.specs.Seats.{Seat, Configuring, seat}
-use Rattle.running_model.specs.Moving.{is_listed_who, joined, vacated}
-use Rattle.running_model.specs.Steps.{with_seat}
+use Rattle.running_nodes.specs.Seats.{Seat, Configuring, seat}
+use Rattle.running_nodes.specs.Moving.{is_listed_who, joined, vacated}
+use Rattle.running_nodes.specs.Steps.{with_seat}
 
 -- what an edit without a fault makes of a setup
 abbrev pub setup_after : Setup → Edit → Setup

@@ -15,11 +15,11 @@ use Rattle.machine_laws.specs.MachineModel.Session.{is_idle, is_live, shut, turn
 use Rattle.machine_laws.specs.MachineModel.Network.{MachineState}
 use Rattle.machine_laws.specs.MachineModel.Steps.{change_node, session_of}
 use Rattle.machine_laws.specs.MachineModel.Events.{Restart, answer_to, is_node, next, unless}
-use Rattle.running_model.specs.Seats.{Seat, breaks_in, far_of, index_from, kept_in, link, name_of, nobody, notice, notice_at, seat}
-use Rattle.running_model.specs.Seats.{seat_named}
-use Rattle.running_model.specs.Steps.{emptied, with_seat}
-use Rattle.running_model.specs.Stands.{IsLong, IsVacant, KeepsPart, Seats, message_size}
-use Rattle.running_model.specs.declared.place.SessionPlace.{SessionPlace}
+use Rattle.running_nodes.specs.Seats.{Seat, breaks_in, far_of, index_from, kept_in, link, name_of, nobody, notice, notice_at, seat}
+use Rattle.running_nodes.specs.Seats.{seat_named}
+use Rattle.running_nodes.specs.Steps.{emptied, with_seat}
+use Rattle.running_nodes.specs.Stands.{IsLong, IsVacant, KeepsPart, Seats, message_size}
+use Rattle.running_nodes.specs.declared.place.SessionPlace.{SessionPlace}
 use Rattle.running_laws.specs.Moments.{IsMoment}
 use Rattle.running_laws.specs.Wiring.{HasFar, IsPlace, name_at, other_at}
 use Rattle.running_laws.specs.Losing.{NothingIsRestarted, RestartsAreMade, all_told, restarted}

@@ -12,7 +12,7 @@ use Rattle.machine_laws.specs.MachineModel.Network.{MachineState, accesses, aske
 use Rattle.machine_laws.specs.MachineModel.Setup.{Setup}
 use Rattle.machine_laws.specs.Setups.{IsNamed}
 use Rattle.machine_laws.proofs.MachineModel.Apart.{access_session, feed_session, peer_session}
-use Rattle.running_model.specs.Seats.{Seat}
+use Rattle.running_nodes.specs.Seats.{Seat}
 use Rattle.running_laws.specs.Wired.{HasPlace, NamePair, access_pairs, names_of, pairs, peer_pairs}
 use Rattle.running_laws.specs.Wiring.{AreSeats}
 use Rattle.running_laws.proofs.Links.{links, tied_of}

@@ -24,8 +24,8 @@ use Rattle.machine_laws.specs.Setups.{IsNamed}
 use Rattle.machine_laws.proofs.MachineModel.Apart.{NamesApart}
 use Rattle.machine_laws.proofs.MachineModel.Distinct.{Apart, apart_of}
 use Rattle.machine_laws.proofs.KindNames.{apart_names}
-use Rattle.running_model.specs.Seats.{Configuring, Controlling, Forwarding, Seat, Who, agent_plan, control_plan, far_of, index_from, is_name, name_of, name_there, names_of, nobody, other, others_of, place_at, place_of, role_of, seat, seat_named, session_with, whos}
-use Rattle.running_model.specs.declared.place.SessionPlace.{SessionPlace}
+use Rattle.running_nodes.specs.Seats.{Configuring, Controlling, Forwarding, Seat, Who, agent_plan, control_plan, far_of, index_from, is_name, name_of, name_there, names_of, nobody, other, others_of, place_at, place_of, role_of, seat, seat_named, session_with, whos}
+use Rattle.running_nodes.specs.declared.place.SessionPlace.{SessionPlace}
 use Rattle.running_laws.specs.Wiring.{AreSeats, HasFar, IsPlace, IsPlaceOf, name_at, other_at}
 use Rattle.running_laws.proofs.FirstPlaces.{apart_kept, at_map, at_of_member, index_here, index_found, index_of_map, map_twice, member_of_at, mapped_length}
 use Rattle.running_laws.proofs.Parties.{Ties, by_kind, holder_of, name_of_party, others_than_root, parties_named, parties_of, party_of_name, plan_names, self, ties_of, ties_turned}

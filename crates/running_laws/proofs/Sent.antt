@@ -13,8 +13,8 @@ use Rattle.machine_laws.specs.MachineModel.Session.{arrived, greeting, item_took
 use Rattle.machine_laws.specs.MachineModel.Session.{told, took, took_first, with_breaks, without_first}
 use Rattle.machine_laws.specs.MachineModel.Moments.{cell}
 use Rattle.machine_laws.proofs.MachineModel.SessionFact.{append_nil, sends, sends_left}
-use Rattle.running_model.specs.Steps.{Sending, behind, sending}
-use Rattle.running_model.specs.Taking.{replies_to, held_after}
+use Rattle.running_nodes.specs.Steps.{Sending, behind, sending}
+use Rattle.running_nodes.specs.Taking.{replies_to, held_after}
 
 -- ---- sends in turn
 abbrev stopped : List ℕ → Sending

@@ -18,8 +18,8 @@ use Rattle.machine_laws.specs.MachineModel.Steps.{joins, session_in, session_of}
 use Rattle.machine_laws.proofs.MachineModel.Twins.{Found, NoTwins, found_each}
 use Rattle.machine_laws.specs.Goal.{Party}
 use Rattle.machine_laws.specs.Setups.{IsNamed}
-use Rattle.running_model.specs.Seats.{Seat, place_of, role_of, seat}
-use Rattle.running_model.specs.declared.place.SessionPlace.{SessionPlace}
+use Rattle.running_nodes.specs.Seats.{Seat, place_of, role_of, seat}
+use Rattle.running_nodes.specs.declared.place.SessionPlace.{SessionPlace}
 use Rattle.running_laws.specs.Wiring.{AreSeats, HasSession, IsFound, IsPlace, name_at, other_at}
 use Rattle.running_laws.proofs.FirstPlaces.{all_of, from_all, some_none}
 use Rattle.running_laws.proofs.Links.{link_of, links, proper, tied_of, twinless}

@@ -23,11 +23,11 @@ use Rattle.machine_laws.specs.Setups.{IsNamed}
 use Rattle.machine_laws.proofs.MachineModel.Apart.{NamesApart}
 use Rattle.machine_laws.proofs.MachineModel.Distinct.{same_false}
 use Rattle.machine_laws.proofs.KindNames.{apart_names}
-use Rattle.running_model.specs.Controls as control
-use Rattle.running_model.specs.AgentNode.Core as agent
-use Rattle.running_model.specs.Seats.{Controlling, Forwarding, Seat, Who, agent_plan, control_plan, name_of, role_of, seat, seat_named}
-use Rattle.running_model.specs.Stands.{Seats}
-use Rattle.running_model.specs.Steps.{shown_by}
+use Rattle.running_nodes.specs.Controls as control
+use Rattle.running_nodes.specs.AgentNode.Core as agent
+use Rattle.running_nodes.specs.Seats.{Controlling, Forwarding, Seat, Who, agent_plan, control_plan, name_of, role_of, seat, seat_named}
+use Rattle.running_nodes.specs.Stands.{Seats}
+use Rattle.running_nodes.specs.Steps.{shown_by}
 use Rattle.running_laws.specs.Wiring.{ShowsAt}
 use Rattle.running_laws.proofs.Agents.{computer_holds}
 use Rattle.running_laws.proofs.PostEnds.{Ends, seat_ends}

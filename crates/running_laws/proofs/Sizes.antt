@@ -13,12 +13,12 @@ use Rattle.node_model.specs.Keys.{Low, Vpn, Row, Publish, Subscribe}
 use Rattle.node_model.specs.Maps.{Change}
 use Rattle.node_model.specs.Values.{Route}
 use Rattle.node_model.proofs.Members.{none_some}
-use Rattle.running_model.specs.NodeRoutes.Told as routes
+use Rattle.running_nodes.specs.NodeRoutes.Told as routes
 use Rattle.machine_laws.specs.MachineModel.Session.{Configuration, Controller, Agent, Role, Message, Open, Keepalive, Hello, Carries, are_peers}
-use Rattle.running_model.specs.Controls.{Controls}
-use Rattle.running_model.specs.Seats.{Who, Configuring, Controlling, Forwarding, name_of, role_of}
-use Rattle.running_model.specs.Stands.{at_least_one, carried_octets, message_size, octets_of}
-use Rattle.running_model.specs.Telling.{CanCarryAs, CanSend, IsRecordChange, from_of}
+use Rattle.running_nodes.specs.Controls.{Controls}
+use Rattle.running_nodes.specs.Seats.{Who, Configuring, Controlling, Forwarding, name_of, role_of}
+use Rattle.running_nodes.specs.Stands.{at_least_one, carried_octets, message_size, octets_of}
+use Rattle.running_nodes.specs.Telling.{CanCarryAs, CanSend, IsRecordChange, from_of}
 use Rattle.running_laws.specs.Hearing.{IsMessageOf}
 
 at_least : (octets : List ℕ) → 0 < length octets → length octets ≡ at_least_one octets

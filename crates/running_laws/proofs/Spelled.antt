@@ -13,14 +13,14 @@ use Rattle.node_core.proofs.Changes.{one_change}
 use Rattle.node_model.specs.Keys.{Vpn}
 use Rattle.node_model.specs.Maps.{Change}
 use Rattle.node_model.specs.Values.{Route}
-use Rattle.running_model.specs.NodeRoutes.Hearing.{IsNext}
-use Rattle.running_model.specs.NodeRoutes.Told.{spelled}
-use Rattle.running_model.proofs.NodeRoutes.One.{update_first}
+use Rattle.running_nodes.specs.NodeRoutes.Hearing.{IsNext}
+use Rattle.running_nodes.specs.NodeRoutes.Told.{spelled}
+use Rattle.running_nodes.proofs.NodeRoutes.One.{update_first}
 use Rattle.machine_laws.specs.MachineModel.Session.{Carries, Message}
 use Rattle.machine_laws.proofs.MachineModel.SessionFact.{map_append}
-use Rattle.running_model.specs.Seats.{Who, no_node}
-use Rattle.running_model.specs.Stands.{octets_of}
-use Rattle.running_model.specs.Telling.{CanCarryAs, IsRouteChange}
+use Rattle.running_nodes.specs.Seats.{Who, no_node}
+use Rattle.running_nodes.specs.Stands.{octets_of}
+use Rattle.running_nodes.specs.Telling.{CanCarryAs, IsRouteChange}
 
 -- ---- one change
 -- an UPDATE is heard as the change of its route, and as no other

@@ -12,10 +12,10 @@ use Rattle.machine_laws.specs.MachineModel.Moments.{Each}
 use Rattle.machine_laws.proofs.MachineModel.NetworkFact.{found}
 use Rattle.machine_laws.proofs.MachineModel.Start.{start_each}
 use Rattle.machine_laws.specs.Headline.{IsWritten}
-use Rattle.running_model.specs.Seats.{Seat, Who, kept_in, notice, others_of, seat, taken_in, whos}
-use Rattle.running_model.specs.Steps.{all_of, fresh_seat}
-use Rattle.running_model.specs.Stands.{IsEnd, IsLong, IsVacant, KeepsPart, Seats, octets_of}
-use Rattle.running_model.specs.declared.place.SessionPlace.{SessionPlace}
+use Rattle.running_nodes.specs.Seats.{Seat, Who, kept_in, notice, others_of, seat, taken_in, whos}
+use Rattle.running_nodes.specs.Steps.{all_of, fresh_seat}
+use Rattle.running_nodes.specs.Stands.{IsEnd, IsLong, IsVacant, KeepsPart, Seats, octets_of}
+use Rattle.running_nodes.specs.declared.place.SessionPlace.{SessionPlace}
 use Rattle.running_laws.specs.Moments.{IsMoment}
 use Rattle.running_laws.proofs.Moments.{moment_start}
 use Rattle.running_laws.specs.Wiring.{IsPlace, name_at, other_at}

@@ -17,11 +17,11 @@ use Rattle.machine_laws.specs.MachineModel.Steps.{change_session, pass, session_
 use Rattle.machine_laws.specs.MachineModel.Moments.{Each}
 use Rattle.machine_laws.proofs.MachineModel.NetworkFact.{KeepsNodes, found}
 use Rattle.machine_laws.proofs.MachineModel.SessionFact.{Fact, Fact-turned, sends as sends_in}
-use Rattle.running_model.specs.Seats.{Seat, breaks_in, far_of, is_down_at, kept_in, kind_of, link, live_at, name_of, notice, others_of}
-use Rattle.running_model.specs.Seats.{seat, seat_named}
-use Rattle.running_model.specs.Steps.{IsStepped, Sending, cleared, end_after, sending, sent_on, with_seat}
-use Rattle.running_model.specs.Stands.{IsDownWhere, IsEnd, IsLong, Seats, message_size, octets_of}
-use Rattle.running_model.specs.declared.place.SessionPlace.{SessionPlace}
+use Rattle.running_nodes.specs.Seats.{Seat, breaks_in, far_of, is_down_at, kept_in, kind_of, link, live_at, name_of, notice, others_of}
+use Rattle.running_nodes.specs.Seats.{seat, seat_named}
+use Rattle.running_nodes.specs.Steps.{IsStepped, Sending, cleared, end_after, sending, sent_on, with_seat}
+use Rattle.running_nodes.specs.Stands.{IsDownWhere, IsEnd, IsLong, Seats, message_size, octets_of}
+use Rattle.running_nodes.specs.declared.place.SessionPlace.{SessionPlace}
 use Rattle.running_laws.specs.Wiring.{HasFar, IsPlace, name_at, other_at}
 use Rattle.running_laws.specs.Moments.{IsMoment}
 use Rattle.running_laws.proofs.AtMoments.{IsSound, all_down_where, all_quiet, moment_right}

@@ -6,7 +6,7 @@ use Rattle.std.proofs.Common.{refl, sym, ◌∙◌, ap, subst}
 use Rattle.node_model.specs.Step.{Phase, Post}
 use Rattle.machine_laws.specs.MachineModel.Session.{Message, Session, is_idle}
 use Rattle.machine_laws.specs.MachineModel.Moments.{NoneGoesDown}
-use Rattle.running_model.specs.Taking.{held_after, phase_after, took_all, took_one}
+use Rattle.running_nodes.specs.Taking.{held_after, phase_after, took_all, took_one}
 use Rattle.running_laws.proofs.Arriving.{live_after, unanswered}
 use Rattle.running_laws.proofs.Sent.{taking_session}
 

@@ -8,11 +8,11 @@ use Rattle.std.proofs.lemmas.Option.{same_Some}
 use Rattle.std.proofs.Common.{refl, sym, ◌∙◌, ap, subst, inl, inr, arith}
 use Rattle.node_model.specs.Step.{post}
 use Rattle.machine_laws.specs.MachineModel.Session.{is_idle}
-use Rattle.running_model.specs.Seats.{Seat, far_of, link_at, live_at, notice_at, other, seat}
-use Rattle.running_model.specs.Steps.{with_link, with_notice}
-use Rattle.running_model.specs.declared.place.SessionPlace.{SessionPlace}
+use Rattle.running_nodes.specs.Seats.{Seat, far_of, link_at, live_at, notice_at, other, seat}
+use Rattle.running_nodes.specs.Steps.{with_link, with_notice}
+use Rattle.running_nodes.specs.declared.place.SessionPlace.{SessionPlace}
 use Rattle.running_laws.specs.Wiring.{HasFar, IsPlace}
-use Rattle.running_model.specs.Steps.{told_of_loss}
+use Rattle.running_nodes.specs.Steps.{told_of_loss}
 use Rattle.running_laws.specs.Losing.{all_told}
 use Rattle.running_laws.proofs.Building.{AllBut, SameEnd, Stays, end_refl, end_trans, fit_but, stays_refl, stays_trans}
 use Rattle.running_laws.proofs.Lists.{AreAlike, AreFit, far_nowhere, not_nobody, same_far_of, same_or_other, same_place, there_or_nobody}

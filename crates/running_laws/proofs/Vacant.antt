@@ -8,12 +8,12 @@ use Rattle.std.proofs.Common.{refl, sym, ◌∙◌, ap, subst, inl, inr}
 use Rattle.node_core.specs.Keeping.{AreSwept}
 use Rattle.node_model.specs.Maps.{difference}
 use Rattle.node_model.specs.Step.{Beginning, Idle, NodeKind, Post, begun, end_of, is_idle, nothing, post, told_all}
-use Rattle.running_model.specs.ControlNode.Wanting.{idle_is_silent}
-use Rattle.running_model.specs.Controls.{plan_of}
-use Rattle.running_model.specs.Seats.{Who, Configuring, Controlling, Forwarding, Seat, breaks_in, kind_of, other, others_of, seat}
-use Rattle.running_model.specs.Steps.{IsStepped, Sending, end_after, reply_fails, sending, sent_on, with_seat}
-use Rattle.running_model.specs.Stands.{IsLong, IsVacant}
-use Rattle.running_model.specs.declared.place.SessionPlace.{SessionPlace}
+use Rattle.running_nodes.specs.ControlNode.Wanting.{idle_is_silent}
+use Rattle.running_nodes.specs.Controls.{plan_of}
+use Rattle.running_nodes.specs.Seats.{Who, Configuring, Controlling, Forwarding, Seat, breaks_in, kind_of, other, others_of, seat}
+use Rattle.running_nodes.specs.Steps.{IsStepped, Sending, end_after, reply_fails, sending, sent_on, with_seat}
+use Rattle.running_nodes.specs.Stands.{IsLong, IsVacant}
+use Rattle.running_nodes.specs.declared.place.SessionPlace.{SessionPlace}
 use Rattle.running_laws.specs.Wiring.{IsPlace}
 use Rattle.running_laws.proofs.Building.{long_again}
 use Rattle.running_laws.proofs.Lists.{AreFit, fit_within, not_nobody, same_other, same_who, seat_elsewhere, seat_here, with_alike}

@@ -13,7 +13,7 @@ use Rattle.node_model.proofs.Members.{from_map, in_either, in_map, none_some}
 use Rattle.machine_laws.specs.MachineModel.Moments.{AreOnce}
 use Rattle.machine_laws.specs.MachineModel.Setup.{Name}
 use Rattle.machine_laws.proofs.MachineModel.Distinct.{Apart, same_false}
-use Rattle.running_model.specs.Seats.{index_from, is_name, name_there, names_of, no_node}
+use Rattle.running_nodes.specs.Seats.{index_from, is_name, name_there, names_of, no_node}
 use Rattle.running_laws.proofs.FirstPlaces.{at_map, index_found, mapped_length, member_of_at, shifted}
 
 -- ---- a place at which there is somebody

@@ -5,10 +5,10 @@ use Rattle.std.specs.declared.option.Option.TheVariants.{Some}
 use Rattle.std.proofs.lemmas.Bool.{cases_eq}
 use Rattle.std.proofs.lemmas.List.{length-set}
 use Rattle.std.proofs.Common.{sym, ◌∙◌, ap, subst, inl, inr}
-use Rattle.running_model.specs.Seats.{Seat, far_of, is_down_at, seat, whole_at, whole_there}
-use Rattle.running_model.specs.Steps.{with_seat}
-use Rattle.running_model.specs.Stands.{IsLong}
-use Rattle.running_model.specs.declared.place.SessionPlace.{SessionPlace}
+use Rattle.running_nodes.specs.Seats.{Seat, far_of, is_down_at, seat, whole_at, whole_there}
+use Rattle.running_nodes.specs.Steps.{with_seat}
+use Rattle.running_nodes.specs.Stands.{IsLong}
+use Rattle.running_nodes.specs.declared.place.SessionPlace.{SessionPlace}
 use Rattle.running_laws.proofs.Lists.{AreAlike, same_far_of, seat_elsewhere, seat_here}
 
 pub down_by_ends : (s s' : List Seat) → AreAlike s s' → (r far : SessionPlace) → far_of s r ≡ Some far

@@ -16,16 +16,16 @@ use Rattle.config_types.specs.declared.topology.Node.{Node}
 use Rattle.node_model.specs.Members.{Member}
 use Rattle.ov_types.proofs.FirstLemmas.{same_name_self}
 use Rattle.node_model.proofs.Members.{from_filter, from_map, in_either, in_left, in_map, in_right, none_some}
-use Rattle.running_model.specs.ConfigNode.Beginning as configuration
-use Rattle.running_model.specs.ControlNode.Beginning as control
-use Rattle.running_model.specs.ControlNode.Core.{is_peer}
-use Rattle.running_model.specs.ControlNode.ControlPlan.{ControlPlan}
-use Rattle.running_model.specs.AgentNode.Beginning as agent
+use Rattle.running_nodes.specs.ConfigNode.Beginning as configuration
+use Rattle.running_nodes.specs.ControlNode.Beginning as control
+use Rattle.running_nodes.specs.ControlNode.Core.{is_peer}
+use Rattle.running_nodes.specs.ControlNode.ControlPlan.{ControlPlan}
+use Rattle.running_nodes.specs.AgentNode.Beginning as agent
 use Rattle.machine_laws.specs.MachineModel.Moments.{HasNumbers, NumbersFit}
 use Rattle.machine_laws.specs.MachineModel.Network.{config}
 use Rattle.machine_laws.specs.MachineModel.Setup.{Name, Setup, agents_of, checked}
-use Rattle.running_model.specs.Controls.{Controls, plan_of}
-use Rattle.running_model.specs.Seats.{Who, Configuring, Controlling, Forwarding, agent_plan, control_plan, controller_named, name_of, name_there, names_of, no_node, others_of, whos}
+use Rattle.running_nodes.specs.Controls.{Controls, plan_of}
+use Rattle.running_nodes.specs.Seats.{Who, Configuring, Controlling, Forwarding, agent_plan, control_plan, controller_named, name_of, name_there, names_of, no_node, others_of, whos}
 use Rattle.running_laws.proofs.Named.{AreNodes, IsAddress}
 
 -- ---- the nodes of a topology

@@ -17,10 +17,10 @@ use Rattle.machine_laws.specs.Setups.{IsNamed}
 use Rattle.machine_laws.specs.Headline.{IsWritten}
 use Rattle.node_model.proofs.Members.{contains_of}
 use Rattle.machine_laws.proofs.Names.{is_named}
-use Rattle.running_model.specs.Seats.{Seat, far_of, name_of, place_of, seat, seat_named}
-use Rattle.running_model.specs.Stands.{Seats}
-use Rattle.running_model.specs.Steps.{forwarders_of}
-use Rattle.running_model.specs.declared.place.SessionPlace.{SessionPlace}
+use Rattle.running_nodes.specs.Seats.{Seat, far_of, name_of, place_of, seat, seat_named}
+use Rattle.running_nodes.specs.Stands.{Seats}
+use Rattle.running_nodes.specs.Steps.{forwarders_of}
+use Rattle.running_nodes.specs.declared.place.SessionPlace.{SessionPlace}
 use Rattle.running_laws.specs.Wiring.{AreSeats, GoesBy, HasFar, HasSession, IsFound, IsPlace, IsPlaceOf, ShowsAt, name_at, other_at}
 use Rattle.running_laws.specs.Wired.{HasPlace, pairs}
 use Rattle.running_laws.proofs.Agents as agents

@@ -5,9 +5,9 @@ use Rattle.machine_laws.specs.MachineModel.Setup.{Name}
 use Rattle.machine_laws.specs.MachineModel.Session.{Session, is_live, is_up, turned, waiting}
 use Rattle.machine_laws.specs.MachineModel.Network.{MachineState}
 use Rattle.machine_laws.specs.MachineModel.Steps.{is_rested, may_connect, session_of}
-use Rattle.running_model.specs.Seats.{Seat, far_of, is_down_at, link_at, live_at, notice_at, place_of, up_at}
-use Rattle.running_model.specs.Stands.{StandsFor}
-use Rattle.running_model.specs.declared.place.SessionPlace.{SessionPlace}
+use Rattle.running_nodes.specs.Seats.{Seat, far_of, is_down_at, link_at, live_at, notice_at, place_of, up_at}
+use Rattle.running_nodes.specs.Stands.{StandsFor}
+use Rattle.running_nodes.specs.declared.place.SessionPlace.{SessionPlace}
 use Rattle.running_laws.specs.Moments.{IsMoment}
 
 -- how many messages and notices wait to be taken at a place: those that left the far one, or a notice

@@ -5,10 +5,10 @@ use Rattle.schedule_script.specs.declared.answer.Answer.TheVariants.{Did, Idle}
 use Rattle.machine_laws.specs.MachineModel.Setup.{Name}
 use Rattle.machine_laws.specs.MachineModel.Network.{MachineState}
 use Rattle.machine_laws.specs.MachineModel.Events.{Break, answer_to, next}
-use Rattle.running_model.specs.Seats.{Seat, place_of}
-use Rattle.running_model.specs.Steps.{unbroken as unbroken_seat, with_break_at}
-use Rattle.running_model.specs.Stands.{StandsFor, message_size}
-use Rattle.running_model.specs.declared.place.SessionPlace.{SessionPlace}
+use Rattle.running_nodes.specs.Seats.{Seat, place_of}
+use Rattle.running_nodes.specs.Steps.{unbroken as unbroken_seat, with_break_at}
+use Rattle.running_nodes.specs.Stands.{StandsFor, message_size}
+use Rattle.running_nodes.specs.declared.place.SessionPlace.{SessionPlace}
 use Rattle.running_laws.specs.Moments.{IsMoment, unbroken}
 use Rattle.running_laws.specs.Asking.{AreAt}
 

@@ -6,10 +6,10 @@ use Rattle.machine_laws.specs.MachineModel.Setup.{Name}
 use Rattle.machine_laws.specs.MachineModel.Network.{MachineState}
 use Rattle.machine_laws.specs.MachineModel.Steps.{connect_if}
 use Rattle.machine_laws.specs.MachineModel.Events.{is_earlier}
-use Rattle.running_model.specs.Seats.{Seat, live_at, seat}
-use Rattle.running_model.specs.Steps.{Takes, cleared, with_seat}
-use Rattle.running_model.specs.Stands.{StandsFor}
-use Rattle.running_model.specs.declared.place.SessionPlace.{SessionPlace}
+use Rattle.running_nodes.specs.Seats.{Seat, live_at, seat}
+use Rattle.running_nodes.specs.Steps.{Takes, cleared, with_seat}
+use Rattle.running_nodes.specs.Stands.{StandsFor}
+use Rattle.running_nodes.specs.declared.place.SessionPlace.{SessionPlace}
 use Rattle.running_laws.specs.Moments.{IsMoment}
 use Rattle.running_laws.specs.Asking.{AreAt, may_connect_at}
 

@@ -9,8 +9,8 @@ use Rattle.std.specs.declared.option.Option.TheVariants.{Some, None}
 use Rattle.ov_link.specs.declared.step.Input.TheVariants.{Bytes}
 use Rattle.node_model.specs.Maps.{Map}
 use Rattle.node_model.specs.Step.{Beginning, Post, is_idle}
-use Rattle.running_model.specs.Seats.{Who}
-use Rattle.running_model.specs.Steps.{BeginsAt}
+use Rattle.running_nodes.specs.Seats.{Who}
+use Rattle.running_nodes.specs.Steps.{BeginsAt}
 
 -- ---- what was sent on an end
 abbrev pub told : Map → Post → Post

@@ -8,10 +8,10 @@ use Rattle.ov_link.specs.declared.step.Input.TheVariants.{Bytes, Closed}
 use Rattle.machine_laws.specs.MachineModel.Setup.{Name}
 use Rattle.machine_laws.specs.MachineModel.Network.{MachineState}
 use Rattle.machine_laws.specs.MachineModel.Steps.{deliver, deliver_octets}
-use Rattle.running_model.specs.Seats.{Seat, kept_at, link_at, notice_at, place_of, seat}
-use Rattle.running_model.specs.Steps.{Takes, cleared, untaken, with_link, with_notice, with_seat}
-use Rattle.running_model.specs.Stands.{StandsFor, message_size}
-use Rattle.running_model.specs.declared.place.SessionPlace.{SessionPlace}
+use Rattle.running_nodes.specs.Seats.{Seat, kept_at, link_at, notice_at, place_of, seat}
+use Rattle.running_nodes.specs.Steps.{Takes, cleared, untaken, with_link, with_notice, with_seat}
+use Rattle.running_nodes.specs.Stands.{StandsFor, message_size}
+use Rattle.running_nodes.specs.declared.place.SessionPlace.{SessionPlace}
 use Rattle.running_laws.specs.Moments.{IsMoment}
 use Rattle.running_laws.specs.Asking.{AreAt}
 

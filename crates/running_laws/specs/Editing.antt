@@ -11,10 +11,10 @@ use Rattle.machine_laws.specs.MachineModel.Setup.{checked, moves}
 use Rattle.machine_laws.specs.MachineModel.Events.{Edits, answer_to, next}
 use Rattle.machine_laws.specs.MachineModel.Moments.{EditIsValid}
 use Rattle.machine_laws.specs.Headline.{IsOfForm}
-use Rattle.running_model.specs.Seats.{Seat}
-use Rattle.running_model.specs.Steps.{Configures, cleared}
-use Rattle.running_model.specs.Moving.{MovesIf}
-use Rattle.running_model.specs.Stands.{StandsFor, message_size}
+use Rattle.running_nodes.specs.Seats.{Seat}
+use Rattle.running_nodes.specs.Steps.{Configures, cleared}
+use Rattle.running_nodes.specs.Moving.{MovesIf}
+use Rattle.running_nodes.specs.Stands.{StandsFor, message_size}
 use Rattle.running_laws.specs.Moments.{IsMoment}
 
 -- an edit is made: a compute node that it puts or deletes moves, then the configuration node has what is valid then, and

@@ -7,10 +7,10 @@ use Rattle.node_model.specs.Members.{Member}
 use Rattle.node_model.specs.Step.{Beginning, Phase, Confirmed, Post}
 use Rattle.machine_laws.specs.MachineModel.Setup.{Setup}
 use Rattle.machine_laws.specs.MachineModel.Session.{Message, Open, Keepalive, Hello, are_peers}
-use Rattle.running_model.specs.Seats.{Who, Configuring, Controlling, Forwarding, name_of, others_of, role_of, whos}
-use Rattle.running_model.specs.Stands.{octets_of}
-use Rattle.running_model.specs.Steps.{BeginsAt}
-use Rattle.running_model.specs.Telling.{CanSend}
+use Rattle.running_nodes.specs.Seats.{Who, Configuring, Controlling, Forwarding, name_of, others_of, role_of, whos}
+use Rattle.running_nodes.specs.Stands.{octets_of}
+use Rattle.running_nodes.specs.Steps.{BeginsAt}
+use Rattle.running_nodes.specs.Telling.{CanSend}
 
 -- the first node's session of this number is with the second
 pub record IsBetween (x : Setup) (a b : Who) (i : ℕ) : Type 0 where

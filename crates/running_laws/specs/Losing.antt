@@ -5,10 +5,10 @@ use Rattle.schedule_script.specs.declared.answer.Answer.TheVariants.{Did, Idle}
 use Rattle.machine_laws.specs.MachineModel.Setup.{Name}
 use Rattle.machine_laws.specs.MachineModel.Network.{MachineState}
 use Rattle.machine_laws.specs.MachineModel.Events.{Lose, Restart, answer_to, next}
-use Rattle.running_model.specs.Seats.{Seat, far_of, is_down_at, place_of, seat, seat_named}
-use Rattle.running_model.specs.Steps.{emptied, told_of_loss, with_link, with_notice, with_seat}
-use Rattle.running_model.specs.Stands.{StandsFor, message_size}
-use Rattle.running_model.specs.declared.place.SessionPlace.{SessionPlace}
+use Rattle.running_nodes.specs.Seats.{Seat, far_of, is_down_at, place_of, seat, seat_named}
+use Rattle.running_nodes.specs.Steps.{emptied, told_of_loss, with_link, with_notice, with_seat}
+use Rattle.running_nodes.specs.Stands.{StandsFor, message_size}
+use Rattle.running_nodes.specs.declared.place.SessionPlace.{SessionPlace}
 use Rattle.running_laws.specs.Moments.{IsMoment}
 use Rattle.running_laws.specs.Asking.{AreAt}
 

@@ -9,7 +9,7 @@ use Rattle.machine_laws.specs.MachineModel.Events.{MachineEvent, next}
 use Rattle.machine_laws.specs.MachineModel.Moments.{EditIsValid}
 use Rattle.machine_laws.specs.MachineModel.Setup.{opening as opening_setup}
 use Rattle.machine_laws.specs.Headline.{IsOfForm, IsWritten}
-use Rattle.running_model.specs.Stands.{message_size}
+use Rattle.running_nodes.specs.Stands.{message_size}
 
 -- no send is to fail
 abbrev pub unbroken : MachineState → MachineState

@@ -1,8 +1,8 @@
 -- The state for which seats stand is one.
 use Rattle.std.specs.Prelude.{◌≡◌, List}
 use Rattle.machine_laws.specs.MachineModel.Network.{MachineState}
-use Rattle.running_model.specs.Seats.{Seat}
-use Rattle.running_model.specs.Stands.{StandsFor}
+use Rattle.running_nodes.specs.Seats.{Seat}
+use Rattle.running_nodes.specs.Stands.{StandsFor}
 use Rattle.running_laws.specs.Moments.{IsMoment}
 
 -- the nodes, with their links, what they keep, their notices and the sends that are to fail, leave nothing of the state

@@ -4,9 +4,9 @@ use Rattle.schedule_script.specs.ConfigCheck.Checked.{Checked}
 use Rattle.machine_laws.specs.MachineModel.Setup.{opening}
 use Rattle.machine_laws.specs.MachineModel.Network.{start}
 use Rattle.machine_laws.specs.Headline.{IsWritten}
-use Rattle.running_model.specs.Seats.{whos}
-use Rattle.running_model.specs.Stands.{StandsFor}
-use Rattle.running_model.specs.Steps.{fresh_seat}
+use Rattle.running_nodes.specs.Seats.{whos}
+use Rattle.running_nodes.specs.Stands.{StandsFor}
+use Rattle.running_nodes.specs.Steps.{fresh_seat}
 use Rattle.running_laws.specs.Moments.{IsMoment}
 
 -- fresh seats stand for the empty state, which is a moment

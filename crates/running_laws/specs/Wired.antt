@@ -12,10 +12,10 @@ use Rattle.machine_laws.specs.MachineModel.Network.{MachineState, config, lists}
 use Rattle.machine_laws.specs.MachineModel.Steps.{session_of}
 use Rattle.machine_laws.specs.MachineModel.Events.{forwarders, is_node}
 use Rattle.machine_laws.specs.Headline.{IsWritten}
-use Rattle.running_model.specs.Seats.{Seat, far_of, name_of, place_of, seat, seat_named}
-use Rattle.running_model.specs.Stands.{Seats}
-use Rattle.running_model.specs.Steps.{forwarders_of}
-use Rattle.running_model.specs.declared.place.SessionPlace.{SessionPlace}
+use Rattle.running_nodes.specs.Seats.{Seat, far_of, name_of, place_of, seat, seat_named}
+use Rattle.running_nodes.specs.Stands.{Seats}
+use Rattle.running_nodes.specs.Steps.{forwarders_of}
+use Rattle.running_nodes.specs.declared.place.SessionPlace.{SessionPlace}
 use Rattle.running_laws.specs.Wiring.{AreSeats, GoesBy, HasFar, HasNumbers, HasSession, HasSessions, IsFound, IsPlace}
 use Rattle.running_laws.specs.Wiring.{IsPlaceOf, ShowsAt, name_at, other_at}
 

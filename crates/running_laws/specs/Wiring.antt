@@ -10,11 +10,11 @@ use Rattle.machine_laws.specs.MachineModel.Network.{MachineState, view, views_of
 use Rattle.machine_laws.specs.MachineModel.Steps.{session_of}
 use Rattle.machine_laws.specs.MachineModel.Events.{shown}
 pub use Rattle.machine_laws.specs.MachineModel.Moments.{HasNumbers, HasSessions}
-use Rattle.running_model.specs.Seats.{Seat, far_of, kind_of, name_of, other, others_of, place_of, role_of, seat, seat_named}
-use Rattle.running_model.specs.Seats.{whos}
-use Rattle.running_model.specs.Steps.{shown_by}
-use Rattle.running_model.specs.Stands.{octets_of}
-use Rattle.running_model.specs.declared.place.SessionPlace.{SessionPlace}
+use Rattle.running_nodes.specs.Seats.{Seat, far_of, kind_of, name_of, other, others_of, place_of, role_of, seat, seat_named}
+use Rattle.running_nodes.specs.Seats.{whos}
+use Rattle.running_nodes.specs.Steps.{shown_by}
+use Rattle.running_nodes.specs.Stands.{octets_of}
+use Rattle.running_nodes.specs.declared.place.SessionPlace.{SessionPlace}
 
 -- the seats are those of a setup's nodes
 abbrev pub AreSeats : Setup → List Seat → Type 0

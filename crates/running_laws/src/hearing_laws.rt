@@ -12,11 +12,11 @@ ghost use Rattle.node_model.specs.Step.{Beginning, Phase, Post};
 ghost use Rattle.machine_laws.specs.MachineModel.Setup.{Name, Setup};
 ghost use Rattle.machine_laws.specs.MachineModel.Moments.{HasNumbers, NoneGoesDown, cell};
 ghost use Rattle.machine_laws.specs.MachineModel.Session.{Message, are_peers, is_idle};
-ghost use Rattle.running_model.specs.Seats.{Who, name_of, others_of, role_of, whos};
-ghost use Rattle.running_model.specs.Stands.{message_size, octets_of};
-ghost use Rattle.running_model.specs.Steps.{BeginsAt};
-ghost use Rattle.running_model.specs.Taking.{closed, opened, taken, taken_all};
-ghost use Rattle.running_model.specs.Telling.{CanSend};
+ghost use Rattle.running_nodes.specs.Seats.{Who, name_of, others_of, role_of, whos};
+ghost use Rattle.running_nodes.specs.Stands.{message_size, octets_of};
+ghost use Rattle.running_nodes.specs.Steps.{BeginsAt};
+ghost use Rattle.running_nodes.specs.Taking.{closed, opened, taken, taken_all};
+ghost use Rattle.running_nodes.specs.Telling.{CanSend};
 ghost use Rattle.running_laws.specs.Cutting.{PartsAreAsWhole, WholeIsAsParts, and_then, told, with_sent};
 ghost use Rattle.running_laws.specs.Hearing.{HasNoCause, IsBetween, IsMessageOf, IsPartial, IsPhaseOf};
 

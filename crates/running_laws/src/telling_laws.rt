@@ -10,8 +10,8 @@ ghost use Rattle.machine_laws.specs.MachineModel.Setup.{agents_of, opening};
 ghost use Rattle.node_model.specs.Members.{Member};
 ghost use Rattle.ov_types.specs.declared.rows.NodeId.{NodeId};
 ghost use Rattle.machine_laws.specs.Headline.{IsOfForm, IsWritten};
-ghost use Rattle.running_model.specs.Stands.{message_size};
-ghost use Rattle.running_model.specs.Telling.{CanBeHeard};
+ghost use Rattle.running_nodes.specs.Stands.{message_size};
+ghost use Rattle.running_nodes.specs.Telling.{CanBeHeard};
 ghost use Rattle.running_laws.specs.Moments.{IsMoment, unbroken};
 
 /// At every moment each message in flight is one that its receiver hears as it was told: a change between control nodes

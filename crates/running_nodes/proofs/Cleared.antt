@@ -1,7 +1,7 @@
 -- A list of which one item after another is replaced by the same one.
 use Rattle.std.proofs.Common.{◌≡◌, ◌≤◌, ◌+◌, ℕ, zero, suc, Bool, false, List, [], ◌∷◌, ◌++◌, length, get_or, map, set, take, drop, ap, refl, arith, add-one, ◌∙◌}
 use Rattle.std.proofs.lemmas.List.{take-append-le, take_all}
-use Rattle.running_model.specs.Steps.{all_of}
+use Rattle.running_nodes.specs.Steps.{all_of}
 use Rattle.running_nodes.specs.Changes.{unbroken_outer}
 use Rattle.running_nodes.specs.Halves.{Outer}
 

@@ -1,7 +1,7 @@
 -- A node that loses all that it has keeps who it is and how many sessions it has.
 use Rattle.std.proofs.Common.{◌≡◌, ◌<◌, ℕ, List, [], false, length, set, sym, ◌∙◌, subst, refl}
 use Rattle.node_model.specs.Step.{nothing}
-use Rattle.running_model.specs.Steps.{all_of}
+use Rattle.running_nodes.specs.Steps.{all_of}
 use Rattle.running_nodes.specs.Changes.{ChangesOne, emptied_inner}
 use Rattle.running_nodes.specs.Halves.{Inner, IsEven, Outer, inner}
 use Rattle.running_nodes.proofs.Stepping.{as_long}

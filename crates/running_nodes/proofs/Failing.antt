@@ -7,8 +7,8 @@ use Rattle.ov_link.specs.Breaks.{is_break}
 use Rattle.ov_link.specs.Delivery.{all_pass, counted_by}
 use Rattle.ov_link.specs.FailingState.{FailingState}
 use Rattle.node_model.specs.Step.{Beginning, NodeKind, Post, StepAt, Steps, begun, changes, planned, replies, told_all}
-use Rattle.running_model.specs.Seats.{kind_of}
-use Rattle.running_model.specs.Steps.{IsStepped, Sending, end_after, reply_fails, sending}
+use Rattle.running_nodes.specs.Seats.{kind_of}
+use Rattle.running_nodes.specs.Steps.{IsStepped, Sending, end_after, reply_fails, sending}
 use Rattle.running_nodes.specs.Halves.{Inner, accepted_of, breaks_of, over}
 use Rattle.running_nodes.proofs.Links.{accepted_there, breaks_there}
 use Rattle.running_nodes.proofs.Sends.{first_fails, left_so, sending_is}

@@ -6,8 +6,8 @@ use Rattle.ov_link.specs.FailingState.{FailingState}
 use Rattle.config_check.specs.Checked.{Checked}
 use Rattle.route_targets.specs.Forwarding.{Forwarder}
 use Rattle.node_model.specs.Agent.{rows as node_rows}
-use Rattle.running_model.specs.ConfigNode.Core as configuration
-use Rattle.running_model.specs.ControlNode.Core as control
+use Rattle.running_nodes.specs.ConfigNode.Core as configuration
+use Rattle.running_nodes.specs.ControlNode.Core as control
 use Rattle.agent_node.specs.Core as agent
 use Rattle.running_nodes.specs.Changes.{SetsOver, forwarders}
 use Rattle.running_nodes.specs.Cores.{IsRight, configured, controlled, forwarded, inners}

@@ -4,7 +4,7 @@ use Rattle.std.specs.List.{Contains}
 use Rattle.ov_types.specs.First.{same_name}
 use Rattle.ov_types.proofs.FirstLemmas.{same_name_self}
 use Rattle.ov_types.specs.declared.rows.NodeId.{NodeId}
-use Rattle.running_model.specs.Seats.{index_from}
+use Rattle.running_nodes.specs.Seats.{index_from}
 
 drop_at : {A : Type 0} (xs : List A) (k : ℕ) (d : A) → k < length xs → drop k xs ≡ get_or xs k d ∷ drop (suc k) xs
 drop_at [] k d lt = absurd (omega arith)

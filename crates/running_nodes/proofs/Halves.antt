@@ -4,9 +4,9 @@ use Rattle.std.proofs.lemmas.List.{length-map}
 use Rattle.std.specs.List.{cons_option}
 use Rattle.ov_types.specs.First.{same_name}
 use Rattle.route_targets.specs.Forwarding.{Forwarder}
-use Rattle.running_model.specs.MachineModel.Setup.{Name}
-use Rattle.running_model.specs.Seats.{Seat, index_from, name_of, nobody}
-use Rattle.running_model.specs.Steps.{all_of, forwarder_of, forwarders_of, unbroken}
+use Rattle.running_nodes.specs.MachineModel.Setup.{Name}
+use Rattle.running_nodes.specs.Seats.{Seat, index_from, name_of, nobody}
+use Rattle.running_nodes.specs.Steps.{all_of, forwarder_of, forwarders_of, unbroken}
 use Rattle.running_nodes.specs.Changes.{forwarders, unbroken_outer}
 use Rattle.running_nodes.specs.Halves.{AreAllHalves, AreHalves, Inner, Outer, inner, joined, outer, whole}
 

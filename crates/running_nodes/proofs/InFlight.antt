@@ -4,7 +4,7 @@ use Rattle.std.proofs.Math.Seq.{take-append-add}
 use Rattle.std.proofs.lemmas.Bool.{le-ltb, lt-ltb}
 use Rattle.std.proofs.lemmas.List.{take-append-le}
 use Rattle.std.specs.List.{concat}
-use Rattle.running_model.specs.Steps.{untaken}
+use Rattle.running_nodes.specs.Steps.{untaken}
 
 drop_both : (k : ℕ) (xs ys : List ℕ) → drop k (xs ++ ys) ≡ drop k xs ++ drop (k - length xs) ys
 drop_both zero xs ys = let none : 0 ≡ 0 - length xs = omega arith in ap (λ (n : ℕ). xs ++ drop n ys) none

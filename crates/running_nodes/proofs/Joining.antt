@@ -4,16 +4,16 @@ use Rattle.std.proofs.Common.{inl, inr}
 use Rattle.std.specs.List.{list_any}
 use Rattle.ov_types.specs.declared.rows.NodeId.{NodeId}
 use Rattle.node_model.specs.Step.{nothing, post}
-use Rattle.running_model.specs.ControlNode.Agents.{AreRetired, Ascend, is_retired, joined, number_for, put_at, with_agent}
-use Rattle.running_model.specs.ControlNode.Core as control
-use Rattle.running_model.specs.ControlNode.ControlPlan.{ControlPlan}
-use Rattle.running_model.proofs.ControlNodeBelow.Retired.{first_bounds, first_gone, first_least, first_taken}
-use Rattle.running_model.specs.MachineModel.Setup.{Name}
-use Rattle.running_model.specs.MachineModel.Setup as model
-use Rattle.running_model.specs.Controls.{Controls, agents_at, controls_of}
-use Rattle.running_model.specs.Moving as moving
-use Rattle.running_model.specs.Moving.{number_in}
-use Rattle.running_model.specs.Seats.{Controlling, name_there, names_of, others_of}
+use Rattle.running_nodes.specs.ControlNode.Agents.{AreRetired, Ascend, is_retired, joined, number_for, put_at, with_agent}
+use Rattle.running_nodes.specs.ControlNode.Core as control
+use Rattle.running_nodes.specs.ControlNode.ControlPlan.{ControlPlan}
+use Rattle.running_nodes.proofs.ControlNodeBelow.Retired.{first_bounds, first_gone, first_least, first_taken}
+use Rattle.running_nodes.specs.MachineModel.Setup.{Name}
+use Rattle.running_nodes.specs.MachineModel.Setup as model
+use Rattle.running_nodes.specs.Controls.{Controls, agents_at, controls_of}
+use Rattle.running_nodes.specs.Moving as moving
+use Rattle.running_nodes.specs.Moving.{number_in}
+use Rattle.running_nodes.specs.Seats.{Controlling, name_there, names_of, others_of}
 use Rattle.running_nodes.specs.Changes.{joined_inner}
 use Rattle.running_nodes.specs.Cores.{IsVacated, controlled}
 use Rattle.running_nodes.proofs.Vacant.{peers_named, there, those}

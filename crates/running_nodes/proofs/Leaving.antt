@@ -6,14 +6,14 @@ use Rattle.ov_types.specs.First.{same_name}
 use Rattle.ov_types.proofs.FirstLemmas.{same_name_iff, same_name_self}
 use Rattle.ov_types.specs.declared.rows.NodeId.{NodeId}
 use Rattle.node_model.specs.Step.{Post, nothing, post}
-use Rattle.running_model.specs.ControlNode.Agents.{departed, is_retired, retiring}
-use Rattle.running_model.specs.ControlNode.Core as control
-use Rattle.running_model.specs.ControlNode.ControlPlan.{ControlPlan}
-use Rattle.running_model.proofs.ControlNodeBelow.Retired.{one_more}
-use Rattle.running_model.specs.MachineModel.Setup.{Name, has_name, without_agent}
-use Rattle.running_model.specs.Controls.{Controls, agents_at, controls_of}
-use Rattle.running_model.specs.Moving.{retired_of, vacated, vacated_from}
-use Rattle.running_model.specs.Seats.{Controlling, Seat, Who, index_from, is_name, name_there, names_of, others_of, session_with}
+use Rattle.running_nodes.specs.ControlNode.Agents.{departed, is_retired, retiring}
+use Rattle.running_nodes.specs.ControlNode.Core as control
+use Rattle.running_nodes.specs.ControlNode.ControlPlan.{ControlPlan}
+use Rattle.running_nodes.proofs.ControlNodeBelow.Retired.{one_more}
+use Rattle.running_nodes.specs.MachineModel.Setup.{Name, has_name, without_agent}
+use Rattle.running_nodes.specs.Controls.{Controls, agents_at, controls_of}
+use Rattle.running_nodes.specs.Moving.{retired_of, vacated, vacated_from}
+use Rattle.running_nodes.specs.Seats.{Controlling, Seat, Who, index_from, is_name, name_there, names_of, others_of, session_with}
 use Rattle.running_nodes.specs.Changes.{IsAlone, emptied_at, vacated_inner}
 use Rattle.running_nodes.specs.Cores.{IsVacated, controlled}
 use Rattle.running_nodes.specs.Halves.{Inner, Outer, whole}

@@ -1,3 +1,10 @@
+pub mod Sizes
+pub mod ControlNodeBelow
+pub mod ConfigNode
+pub mod ControlWants
+pub mod AgentTables
+pub mod MachineModel
+pub mod NodeRoutes
 pub mod Sends
 pub mod Links
 pub mod Failing
@@ -20,5 +27,3 @@ pub mod Reseating
 pub mod Moved
 pub mod Seating
 pub mod Shifts
-pub mod RunningModel
-pub mod MachineModel

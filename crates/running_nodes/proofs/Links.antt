@@ -6,8 +6,8 @@ use Rattle.std.proofs.lemmas.Option.{get_or_from_slice_get, slice_get_within}
 use Rattle.std.specs.List.{slice_get}
 use Rattle.ov_link.specs.FailingState.{FailingState}
 use Rattle.node_model.specs.Step.{At}
-use Rattle.running_model.specs.MachineModel.Setup.{Name}
-use Rattle.running_model.specs.Steps.{all_of}
+use Rattle.running_nodes.specs.MachineModel.Setup.{Name}
+use Rattle.running_nodes.specs.Steps.{all_of}
 use Rattle.running_nodes.specs.Halves.{IsEven, Outer, accepted_of, breaks_of}
 
 -- an edge with these links

@@ -10,16 +10,16 @@ use Rattle.ov_types.specs.declared.rows.NodeId.{NodeId}
 use Rattle.config_check.specs.Checked.{Checked}
 use Rattle.config_types.specs.declared.topology.Node.{Node}
 use Rattle.config_types.specs.declared.topology.Topology.{Topology}
-use Rattle.running_model.specs.MachineModel.Setup.{Name, agents_in, first_numbers, id_of, lists, opening}
-use Rattle.running_model.specs.Controls.{Controls, agents_at, controls_of}
+use Rattle.running_nodes.specs.MachineModel.Setup.{Name, agents_in, first_numbers, id_of, lists, opening}
+use Rattle.running_nodes.specs.Controls.{Controls, agents_at, controls_of}
 use Rattle.node_core.specs.Keeping.{nothing_kept}
 use Rattle.node_core.specs.Resting.{nothings}
 use Rattle.node_model.specs.Step.{nothing}
-use Rattle.running_model.specs.ConfigNode.Core as configuration
-use Rattle.running_model.specs.ControlNode.Core as control
+use Rattle.running_nodes.specs.ConfigNode.Core as configuration
+use Rattle.running_nodes.specs.ControlNode.Core as control
 use Rattle.agent_node.specs.Core as agent
-use Rattle.running_model.specs.Seats.{Configuring, Controlling, Forwarding, Seat, Who, agent_plan, control_plan, controller_named, names_of, others_of, whos}
-use Rattle.running_model.specs.Steps.{fresh_seat}
+use Rattle.running_nodes.specs.Seats.{Configuring, Controlling, Forwarding, Seat, Who, agent_plan, control_plan, controller_named, names_of, others_of, whos}
+use Rattle.running_nodes.specs.Steps.{fresh_seat}
 use Rattle.running_nodes.specs.Cores.{IsVacated, configured, controlled, forwarded, inners}
 use Rattle.running_nodes.specs.Fresh.{IsSetUp, fresh_inner, fresh_outer, opening_plan}
 use Rattle.running_nodes.specs.Halves.{AreAllHalves, Inner, Outer, joined}

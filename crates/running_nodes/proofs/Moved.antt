@@ -3,12 +3,12 @@ use Rattle.std.proofs.Common.{◌≡◌, ◌<◌, ◌≤◌, ℕ, zero, suc, Opt
 use Rattle.std.proofs.lemmas.List.{length-set}
 use Rattle.ov_types.specs.declared.rows.NodeId.{NodeId}
 use Rattle.node_model.specs.Step.{Post, nothing}
-use Rattle.running_model.specs.ControlNode.Agents.{put_at}
-use Rattle.running_model.proofs.ControlNodeBelow.Placed.{put_alike, put_behind, put_there}
-use Rattle.running_model.specs.MachineModel.Setup.{Name}
-use Rattle.running_model.specs.Controls.{Controls}
-use Rattle.running_model.specs.Moving.{joined, number_for, retired_of, vacated}
-use Rattle.running_model.specs.Seats.{Who, Configuring, Controlling, Forwarding, name_of, others_of}
+use Rattle.running_nodes.specs.ControlNode.Agents.{put_at}
+use Rattle.running_nodes.proofs.ControlNodeBelow.Placed.{put_alike, put_behind, put_there}
+use Rattle.running_nodes.specs.MachineModel.Setup.{Name}
+use Rattle.running_nodes.specs.Controls.{Controls}
+use Rattle.running_nodes.specs.Moving.{joined, number_for, retired_of, vacated}
+use Rattle.running_nodes.specs.Seats.{Who, Configuring, Controlling, Forwarding, name_of, others_of}
 use Rattle.running_nodes.specs.Changes.{IsAlone, emptied_at, joined_inner, joined_outer, longer_outer, vacated_inner}
 use Rattle.running_nodes.specs.Halves.{AreHalves, Inner, IsEven, Outer, whole}
 use Rattle.running_nodes.proofs.Joining.{others_joined}

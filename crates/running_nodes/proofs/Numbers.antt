@@ -2,10 +2,10 @@
 use Rattle.std.proofs.Common.{◌≡◌, ◌<◌, ◌+◌, ℕ, zero, suc, List, [], ◌∷◌, ◌++◌, length, map, get_or, set, sym, ◌∙◌, ap, refl, subst, arith, zero-add}
 use Rattle.std.proofs.lemmas.List.{get_or-set_same}
 use Rattle.std.specs.List.{All}
-use Rattle.running_model.specs.ConfigNode.Core as configuration
-use Rattle.running_model.specs.ControlNode.Core as control
+use Rattle.running_nodes.specs.ConfigNode.Core as configuration
+use Rattle.running_nodes.specs.ControlNode.Core as control
 use Rattle.agent_node.specs.Core as agent
-use Rattle.running_model.specs.Seats.{name_of, others_of}
+use Rattle.running_nodes.specs.Seats.{name_of, others_of}
 use Rattle.running_nodes.specs.Changes.{ChangesOne}
 use Rattle.running_nodes.specs.Cores.{configured, controlled, forwarded, inners}
 use Rattle.running_nodes.specs.Halves.{Inner, inner, no_inner}

@@ -4,14 +4,14 @@ use Rattle.std.specs.Option.{option_map}
 use Rattle.ov_types.specs.First.{same_name}
 use Rattle.config_types.specs.declared.topology.Node.{Node}
 use Rattle.config_types.specs.declared.topology.Topology.{Topology}
-use Rattle.running_model.specs.ConfigNode.Core as configuration
-use Rattle.running_model.specs.ControlNode.Core as control
+use Rattle.running_nodes.specs.ConfigNode.Core as configuration
+use Rattle.running_nodes.specs.ControlNode.Core as control
 use Rattle.agent_node.specs.Core as agent
-use Rattle.running_model.specs.MachineModel.Session.{Agent}
-use Rattle.running_model.specs.MachineModel.Network.{same_role}
-use Rattle.running_model.specs.MachineModel.Setup.{Name}
-use Rattle.running_model.specs.Moving.{is_agent_named, reseated, seats_of}
-use Rattle.running_model.specs.Seats.{Forwarding, Seat, agent_plan, index_from, name_of, role_of}
+use Rattle.running_nodes.specs.MachineModel.Session.{Agent}
+use Rattle.running_nodes.specs.MachineModel.Network.{same_role}
+use Rattle.running_nodes.specs.MachineModel.Setup.{Name}
+use Rattle.running_nodes.specs.Moving.{is_agent_named, reseated, seats_of}
+use Rattle.running_nodes.specs.Seats.{Forwarding, Seat, agent_plan, index_from, name_of, role_of}
 use Rattle.running_nodes.specs.Cores.{configured, controlled, forwarded, inners}
 use Rattle.running_nodes.specs.Fresh.{fresh_agents_of, fresh_outers_of, replaced_at}
 use Rattle.running_nodes.specs.Halves.{AreAllHalves, Inner, Outer, joined, whole}

@@ -9,12 +9,12 @@ use Rattle.ov_types.specs.First.{same_name}
 use Rattle.config_types.specs.declared.topology.Node.{Node}
 use Rattle.config_types.specs.declared.topology.Topology.{Topology}
 use Rattle.agent_node.specs.Core as agent
-use Rattle.running_model.specs.ConfigNode.Core as configuration
-use Rattle.running_model.specs.ControlNode.Core as control
-use Rattle.running_model.specs.MachineModel.Setup.{Name}
-use Rattle.running_model.specs.Controls.{Controls, first_agent}
-use Rattle.running_model.specs.Moving.{number_for, number_in, reseated, seats_of}
-use Rattle.running_model.specs.Seats.{Controlling, Seat, index_from, Who, name_there, names_of, other, others_of, seat}
+use Rattle.running_nodes.specs.ConfigNode.Core as configuration
+use Rattle.running_nodes.specs.ControlNode.Core as control
+use Rattle.running_nodes.specs.MachineModel.Setup.{Name}
+use Rattle.running_nodes.specs.Controls.{Controls, first_agent}
+use Rattle.running_nodes.specs.Moving.{number_for, number_in, reseated, seats_of}
+use Rattle.running_nodes.specs.Seats.{Controlling, Seat, index_from, Who, name_there, names_of, other, others_of, seat}
 use Rattle.running_nodes.specs.Changes.{IsAlone}
 use Rattle.running_nodes.specs.Cores.{IsRight, controlled, forwarded, inners}
 use Rattle.running_nodes.specs.Fresh.{fresh_agents_of, fresh_outers_of, replaced_at}

@@ -3,7 +3,7 @@ use Rattle.std.proofs.Common.{◌≡◌, ◌<◌, ◌≤◌, ℕ, zero, suc, Boo
 use Rattle.std.proofs.lemmas.Bool.{and_parts, le-ltb, lt-ltb}
 use Rattle.ov_link.specs.Breaks.{counted, is_break}
 use Rattle.ov_link.specs.Delivery.{all_pass, counted_by}
-use Rattle.running_model.specs.Steps.{Sending, behind, sending}
+use Rattle.running_nodes.specs.Steps.{Sending, behind, sending}
 
 -- ---- breaks, counted from the first send on
 counted_on : (n : ℕ) (breaks : List ℕ) → counted_by (suc n) breaks ≡ counted_by n (counted breaks)

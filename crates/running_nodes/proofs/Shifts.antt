@@ -1,7 +1,7 @@
 -- One control node of all nodes, as it is after an agent left it or came to it.
 use Rattle.std.proofs.Common.{◌≡◌, ◌<◌, ◌+◌, ℕ, List, length, get_or, set, sym, ◌∙◌, ap, subst}
-use Rattle.running_model.specs.ConfigNode.Core as configuration
-use Rattle.running_model.specs.ControlNode.Core as control
+use Rattle.running_nodes.specs.ConfigNode.Core as configuration
+use Rattle.running_nodes.specs.ControlNode.Core as control
 use Rattle.agent_node.specs.Core as agent
 use Rattle.running_nodes.specs.Cores.{controlled, inners}
 use Rattle.running_nodes.specs.Halves.{Inner, inner, no_inner}

@@ -4,9 +4,9 @@ use Rattle.ov_link.specs.FailingState.{FailingState}
 use Rattle.ov_link.specs.declared.step.Input.{Input}
 use Rattle.config_check.specs.Checked.{Checked}
 use Rattle.node_core.specs.Keeping.{AreSwept}
-use Rattle.running_model.specs.MachineModel.Setup.{Name}
-use Rattle.running_model.specs.Seats.{Seat, Configuring, nobody, others_of, seat}
-use Rattle.running_model.specs.Steps.{Configures, IsStepped, Passes, Takes, as_it_is, with_seat}
+use Rattle.running_nodes.specs.MachineModel.Setup.{Name}
+use Rattle.running_nodes.specs.Seats.{Seat, Configuring, nobody, others_of, seat}
+use Rattle.running_nodes.specs.Steps.{Configures, IsStepped, Passes, Takes, as_it_is, with_seat}
 use Rattle.running_nodes.specs.Changes.{ChangesOne, PassesOver, SetsOver, TakesOver}
 use Rattle.running_nodes.specs.Halves.{AreAllHalves, AreHalves, Inner, IsEven, Outer, inner, joined, no_inner, no_outer, outer, whole}
 use Rattle.running_nodes.proofs.Links.{edge_of}

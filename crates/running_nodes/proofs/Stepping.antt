@@ -12,22 +12,22 @@ use Rattle.node_core.specs.Keeping.{AreSwept, kept_at, nothing_kept}
 use Rattle.node_core.specs.Resting.{nothings}
 use Rattle.node_core.specs.Whole.{IsWholeStep, session_of}
 use Rattle.node_model.specs.Step.{Beginning, Post, Steps, nothing, post}
-use Rattle.running_model.specs.ConfigNode.Core as configuration
-use Rattle.running_model.specs.ControlNode.Agents.{AreRetired, is_retired}
-use Rattle.running_model.specs.ControlNode.Beginning.{BeginsKeeping}
-use Rattle.running_model.specs.ControlNode.Core as control
-use Rattle.running_model.specs.ControlNode.Wanting as wanting
-use Rattle.running_model.specs.ControlNode.NodeCause.{NodeCause}
-use Rattle.running_model.specs.ControlNode.ControlPlan.{ControlPlan}
+use Rattle.running_nodes.specs.ConfigNode.Core as configuration
+use Rattle.running_nodes.specs.ControlNode.Agents.{AreRetired, is_retired}
+use Rattle.running_nodes.specs.ControlNode.Beginning.{BeginsKeeping}
+use Rattle.running_nodes.specs.ControlNode.Core as control
+use Rattle.running_nodes.specs.ControlNode.Wanting as wanting
+use Rattle.running_nodes.specs.ControlNode.NodeCause.{NodeCause}
+use Rattle.running_nodes.specs.ControlNode.ControlPlan.{ControlPlan}
 use Rattle.agent_node.specs.Core as agent
 use Rattle.agent_node.specs.declared.plan.AgentPlan.{AgentPlan}
-use Rattle.running_model.specs.Controls.{controls_of}
-use Rattle.running_model.specs.Seats.{Who, Configuring, Controlling, Forwarding, kind_of, names_of, others_of}
-use Rattle.running_model.specs.Steps.{BeginsAt, all_of}
+use Rattle.running_nodes.specs.Controls.{controls_of}
+use Rattle.running_nodes.specs.Seats.{Who, Configuring, Controlling, Forwarding, kind_of, names_of, others_of}
+use Rattle.running_nodes.specs.Steps.{BeginsAt, all_of}
 use Rattle.running_nodes.specs.Changes.{PassesOver, SetsOver, TakesOver, emptied_inner}
 use Rattle.running_nodes.specs.Cores.{IsVacated, configured, controlled, forwarded}
 use Rattle.running_nodes.specs.Halves.{Inner}
-use Rattle.running_model.specs.ConfigNode.Setting.{as_it_is}
+use Rattle.running_nodes.specs.ConfigNode.Setting.{as_it_is}
 use Rattle.running_nodes.proofs.Failing.{failing_steps}
 use Rattle.running_nodes.proofs.Vacant.{begins_alike, first_stays, node_steps, none_after, none_fresh, sessions_there}
 

@@ -19,21 +19,21 @@ use Rattle.node_model.specs.Maps.{Map, difference}
 use Rattle.node_model.specs.Paths.{Told}
 use Rattle.node_model.specs.Step.{Beginning, NodeKind, Post, Steps, begun, changes, nothing, planned, post, replies, told_all}
 use Rattle.node_model.specs.Wants.{wanted_by_agent, wanted_by_peers}
-use Rattle.running_model.specs.ControlWants.Held.{told_in}
-use Rattle.running_model.specs.ControlNode.Agents.{AreRetired, Ascend, is_retired}
-use Rattle.running_model.specs.ControlNode.Beginning.{BeginsKeeping, KeepsBy, agent_at, config, item_session, item_state, no_node}
-use Rattle.running_model.specs.ControlNode.Core as core
-use Rattle.running_model.specs.ControlNode.Wanting as wanting
-use Rattle.running_model.specs.ControlNode.NodeCause.{NodeCause}
-use Rattle.running_model.specs.ControlNode.NodeCause.TheVariants as Cause
-use Rattle.running_model.specs.ControlNode.ControlPlan.{ControlPlan}
-use Rattle.running_model.specs.MachineModel.Setup.{Name}
-use Rattle.running_model.specs.MachineModel.Network.{config as named_config}
+use Rattle.running_nodes.specs.ControlWants.Held.{told_in}
+use Rattle.running_nodes.specs.ControlNode.Agents.{AreRetired, Ascend, is_retired}
+use Rattle.running_nodes.specs.ControlNode.Beginning.{BeginsKeeping, KeepsBy, agent_at, config, item_session, item_state, no_node}
+use Rattle.running_nodes.specs.ControlNode.Core as core
+use Rattle.running_nodes.specs.ControlNode.Wanting as wanting
+use Rattle.running_nodes.specs.ControlNode.NodeCause.{NodeCause}
+use Rattle.running_nodes.specs.ControlNode.NodeCause.TheVariants as Cause
+use Rattle.running_nodes.specs.ControlNode.ControlPlan.{ControlPlan}
+use Rattle.running_nodes.specs.MachineModel.Setup.{Name}
+use Rattle.running_nodes.specs.MachineModel.Network.{config as named_config}
 use Rattle.node_laws.specs.Quiet.{IsWithout, SameButQuiet}
 use Rattle.node_laws.proofs.Quiet.{quiet_by_agent, quiet_by_peers}
-use Rattle.running_model.specs.Controls as controls
-use Rattle.running_model.specs.Controls.{agents_at, controls_of, plan_of, told_at}
-use Rattle.running_model.specs.Seats.{Controlling, name_there, names_of, others_of}
+use Rattle.running_nodes.specs.Controls as controls
+use Rattle.running_nodes.specs.Controls.{agents_at, controls_of, plan_of, told_at}
+use Rattle.running_nodes.specs.Seats.{Controlling, name_there, names_of, others_of}
 
 next : (n : ℕ) → n + 1 ≡ suc n
 next n = omega arith

@@ -10,12 +10,12 @@ use Rattle.ov_types.specs.declared.rows.NodeRows.{NodeRows}
 use Rattle.route_targets.specs.Forwarding.{Forwarder}
 use Rattle.node_core.specs.Keeping.{AreSwept}
 use Rattle.node_model.specs.Step.{nothing}
-use Rattle.running_model.specs.ControlNode.Agents.{put_at}
-use Rattle.running_model.specs.MachineModel.Setup.{Name, with_agent}
-use Rattle.running_model.specs.Controls.{Controls, first_agent}
-use Rattle.running_model.specs.Moving.{number_for, retired_of}
-use Rattle.running_model.specs.Seats.{Who, Configuring, Controlling, name_of, others_of}
-use Rattle.running_model.specs.Steps.{IsStepped, Passes, Takes, all_of, as_it_is, forwarder_of, shown_by}
+use Rattle.running_nodes.specs.ControlNode.Agents.{put_at}
+use Rattle.running_nodes.specs.MachineModel.Setup.{Name, with_agent}
+use Rattle.running_nodes.specs.Controls.{Controls, first_agent}
+use Rattle.running_nodes.specs.Moving.{number_for, retired_of}
+use Rattle.running_nodes.specs.Seats.{Who, Configuring, Controlling, name_of, others_of}
+use Rattle.running_nodes.specs.Steps.{IsStepped, Passes, Takes, all_of, as_it_is, forwarder_of, shown_by}
 use Rattle.running_nodes.specs.Halves.{Inner, Outer, inner, over, seated}
 
 -- nothing but the node of this number changes, which keeps its name and its sessions

@@ -11,9 +11,9 @@ use Rattle.agent_node.specs.contracts.plan.AgentPlan as agents
 use Rattle.agent_node.specs.declared.plan.AgentPlan.{AgentPlan}
 use Rattle.node_model.specs.Codes.{coded_post}
 use Rattle.node_model.specs.Step.{Post}
-use Rattle.running_model.specs.MachineModel.Setup.{Name}
-use Rattle.running_model.specs.Controls.{Controls}
-use Rattle.running_model.specs.Seats.{Who, Configuring, Controlling, Forwarding, Seat}
+use Rattle.running_nodes.specs.MachineModel.Setup.{Name}
+use Rattle.running_nodes.specs.Controls.{Controls}
+use Rattle.running_nodes.specs.Seats.{Who, Configuring, Controlling, Forwarding, Seat}
 use Rattle.running_nodes.specs.Halves.{Inner, Outer, Standing, seated}
 
 -- ---- who is there

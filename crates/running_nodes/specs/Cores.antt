@@ -5,14 +5,14 @@ use Rattle.std.specs.declared.option.Option.TheVariants.{Some, None}
 use Rattle.node_model.specs.Agent.{rows as rows_of}
 use Rattle.node_model.specs.Paths.{Holdings}
 use Rattle.node_model.specs.Step.{Post, nothing, post}
-use Rattle.running_model.specs.ConfigNode.Core as configuration
-use Rattle.running_model.specs.ControlNode.Agents.{is_retired}
-use Rattle.running_model.specs.ControlNode.Core as control
+use Rattle.running_nodes.specs.ConfigNode.Core as configuration
+use Rattle.running_nodes.specs.ControlNode.Agents.{is_retired}
+use Rattle.running_nodes.specs.ControlNode.Core as control
 use Rattle.agent_node.specs.Core as agent
 use Rattle.node_laws.specs.Quiet.{SameButQuiet}
-use Rattle.running_model.specs.Controls as controls
-use Rattle.running_model.specs.Controls.{controls_of}
-use Rattle.running_model.specs.Seats.{Who, Configuring, Controlling, Forwarding}
+use Rattle.running_nodes.specs.Controls as controls
+use Rattle.running_nodes.specs.Controls.{controls_of}
+use Rattle.running_nodes.specs.Seats.{Who, Configuring, Controlling, Forwarding}
 use Rattle.running_nodes.specs.Halves.{Inner}
 use Rattle.running_nodes.specs.declared.kinds.NodeRole.{NodeRole}
 use Rattle.running_nodes.specs.declared.kinds.NodeRole.TheVariants.{Configuration, Control, Agent}

@@ -7,13 +7,13 @@ use Rattle.config_check.specs.Rules.{controller_names}
 use Rattle.config_types.specs.declared.topology.Node.{Node}
 use Rattle.config_types.specs.declared.topology.Topology.{Topology}
 use Rattle.agent_node.specs.Core as agent
-use Rattle.running_model.specs.ControlNode.ControlPlan.{ControlPlan}
+use Rattle.running_nodes.specs.ControlNode.ControlPlan.{ControlPlan}
 use Rattle.node_model.specs.Step.{nothing}
-use Rattle.running_model.specs.MachineModel.Setup.{id_of, lists}
+use Rattle.running_nodes.specs.MachineModel.Setup.{id_of, lists}
 use Rattle.ov_types.specs.First.{same_name}
 use Rattle.ov_types.specs.declared.rows.NodeId.{NodeId}
-use Rattle.running_model.specs.Seats.{Who, Forwarding, agent_plan, name_of, others_of}
-use Rattle.running_model.specs.Steps.{all_of}
+use Rattle.running_nodes.specs.Seats.{Who, Forwarding, agent_plan, name_of, others_of}
+use Rattle.running_nodes.specs.Steps.{all_of}
 use Rattle.running_nodes.specs.Halves.{Inner, Outer}
 
 -- the halves of a fresh seat

@@ -4,8 +4,8 @@ use Rattle.std.specs.declared.option.Option.{Option}
 use Rattle.std.specs.List.{slice_index_or}
 use Rattle.ov_link.specs.FailingState.{FailingState}
 use Rattle.node_model.specs.Step.{Post}
-use Rattle.running_model.specs.MachineModel.Setup.{Name}
-use Rattle.running_model.specs.Seats.{Who, Forwarding, Seat, is_live, name_of, no_node, others_of}
+use Rattle.running_nodes.specs.MachineModel.Setup.{Name}
+use Rattle.running_nodes.specs.Seats.{Who, Forwarding, Seat, is_live, name_of, no_node, others_of}
 
 -- who a node is, its end of each session, and the octets that it keeps there
 pub record Inner : Type 0 where

@@ -1,21 +1,23 @@
 //! What a node of each kind takes, and what it shows. A send that fails closes its end, and the step is taken all the
 //! same. Where memory is wanting nothing is left of what the node had.
 ghost use Rattle.std.specs.Prelude.{◌≡◌, ◌<◌, true, false, length, slice_index_or, None, Some, IfOk, OnErr, OnOk};
-ghost use Rattle.running_model.specs.ControlNode.Core.{fresh};
+ghost use Rattle.running_nodes.specs.ControlNode.Core.{fresh};
 ghost use Rattle.node_core.specs.Whole.{Comes, session_of};
-ghost use Rattle.running_model.specs.MachineModel.Setup.{Name as NameOf};
-ghost use Rattle.running_model.specs.Controls.{controls_of};
-ghost use Rattle.running_model.specs.Moving.{number_for};
-ghost use Rattle.running_model.specs.Seats.{others_of};
+ghost use Rattle.running_nodes.specs.MachineModel.Setup.{Name as NameOf};
+ghost use Rattle.running_nodes.specs.Controls.{controls_of};
+ghost use Rattle.running_nodes.specs.Moving.{number_for};
+ghost use Rattle.running_nodes.specs.Seats.{others_of};
 ghost use Rattle.running_nodes.specs.Changes.{IsAlone, PassesOver, SetsOver, TakesOver, emptied_inner, joined_inner};
 ghost use Rattle.running_nodes.specs.Changes.{shown, vacated_inner};
 ghost use Rattle.running_nodes.specs.Cores.{IsRight, IsVacated, configured, controlled, forwarded};
 ghost use Rattle.running_nodes.specs.Halves.{live};
 
+use agent_node::AgentNode;
 use config_check::Valid;
+use config_node::ConfigNode;
+use control_node::ControlNode;
 use ov_link::{FailingLink, Input, Links, NodeFault};
 use ov_types::{Name, NoMemory, NodeId, NodeRows};
-use running_model::{AgentNode, ConfigNode, ControlNode};
 
 /// The configuration node takes an input, and tells each session what is wanted then.
 pub(crate) fn take_config(

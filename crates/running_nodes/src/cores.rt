@@ -5,10 +5,10 @@ ghost use Rattle.config_check.specs.Checked.{Checked};
 ghost use Rattle.node_core.specs.Keeping.{kept_at};
 ghost use Rattle.node_core.specs.Whole.{Comes, session_of};
 ghost use Rattle.route_targets.specs.Forwarding.{forwarding};
-ghost use Rattle.running_model.specs.Seats.{Configuring, Controlling, is_up, others_of};
-ghost use Rattle.running_model.specs.MachineModel.Setup.{Name as NameOf};
-ghost use Rattle.running_model.specs.Controls.{Controls};
-ghost use Rattle.running_model.specs.Moving.{number_for};
+ghost use Rattle.running_nodes.specs.Seats.{Configuring, Controlling, is_up, others_of};
+ghost use Rattle.running_nodes.specs.MachineModel.Setup.{Name as NameOf};
+ghost use Rattle.running_nodes.specs.Controls.{Controls};
+ghost use Rattle.running_nodes.specs.Moving.{number_for};
 ghost use Rattle.running_nodes.specs.Cores.{HoldsAs, held_by};
 ghost use Rattle.running_nodes.specs.Changes.{ChangesOne, IsAlone, PassesOver, SetsOver, TakesOver, emptied_inner};
 ghost use Rattle.running_nodes.specs.Changes.{forwarders, joined_inner, shown, vacated_inner};
@@ -19,10 +19,12 @@ use crate::acting::{
     show_control, take_agent, take_config, take_control, tell_control,
 };
 use crate::kinds::{NodeRole, kind_of};
+use agent_node::AgentNode;
 use config_check::Valid;
+use config_node::ConfigNode;
+use control_node::ControlNode;
 use ov_link::{FailingLink, Input, Links};
 use ov_types::{Name, NoMemory, NodeId, NodeRows, Outcome, Packet};
-use running_model::{AgentNode, ConfigNode, ControlNode};
 use std::marker::Model;
 
 /// The nodes by their numbers: the configuration node, then the control nodes, then the agents. At each session of a

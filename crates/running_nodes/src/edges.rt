@@ -3,8 +3,8 @@ ghost use Rattle.std.specs.Prelude.{◌≡◌, ◌<◌, ◌≤◌, ◌+◌, ◌^
 ghost use Rattle.std.specs.Prelude.{slice_set, take, None, IfOk, OnErr, OnOk};
 ghost use Rattle.std.specs.List.{concat};
 ghost use Rattle.ov_link.specs.Breaks.{with_break};
-ghost use Rattle.running_model.specs.Seats.{index_from, is_name};
-ghost use Rattle.running_model.specs.Steps.{all_of, untaken};
+ghost use Rattle.running_nodes.specs.Seats.{index_from, is_name};
+ghost use Rattle.running_nodes.specs.Steps.{all_of, untaken};
 ghost use Rattle.running_nodes.specs.Changes.{emptied_at, joined_outer, longer_outer, unbroken_outer};
 ghost use Rattle.running_nodes.specs.Halves.{IsEven};
 

@@ -1,7 +1,7 @@
 //! Nodes and sessions by names.
 ghost use Rattle.std.specs.Prelude.{◌≡◌, ◌<◌, ◌≤◌, ◌^◌, length};
 ghost use Rattle.ov_types.specs.First.{same_name};
-ghost use Rattle.running_model.specs.Seats.{index_from, is_name};
+ghost use Rattle.running_nodes.specs.Seats.{index_from, is_name};
 
 use crate::edges::Edge;
 use ov_types::Name;

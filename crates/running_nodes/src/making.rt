@@ -5,10 +5,10 @@ ghost use Rattle.std.specs.Option.{option_map};
 ghost use Rattle.std.specs.List.{All, Contains};
 ghost use Rattle.config_check.specs.Rules.{controller_names};
 ghost use Rattle.agent_node.specs.Core.{Core as AgentCore, fresh as fresh_agent};
-ghost use Rattle.running_model.specs.ControlNode.Core.{fresh as fresh_control};
-ghost use Rattle.running_model.specs.Seats.{Configuring, Controlling, Forwarding, agent_plan, whos};
-ghost use Rattle.running_model.specs.MachineModel.Setup.{opening};
-ghost use Rattle.running_model.specs.Controls.{controls_of};
+ghost use Rattle.running_nodes.specs.ControlNode.Core.{fresh as fresh_control};
+ghost use Rattle.running_nodes.specs.Seats.{Configuring, Controlling, Forwarding, agent_plan, whos};
+ghost use Rattle.running_nodes.specs.MachineModel.Setup.{opening};
+ghost use Rattle.running_nodes.specs.Controls.{controls_of};
 ghost use Rattle.running_nodes.specs.Cores.{IsRight, IsVacated};
 ghost use Rattle.running_nodes.specs.Fresh.{IsSetUp, fresh_agents_of, fresh_outer, fresh_outers_of, opening_plan};
 ghost use Rattle.running_nodes.specs.Fresh.{replaced_at};
@@ -18,11 +18,12 @@ use crate::edges::Edge;
 use crate::plans::{
     agent_plan, control_plan, others_of_agent, others_of_config, others_of_control,
 };
+use agent_node::AgentNode;
 use config_check::Valid;
 use config_types::{Node, Topology};
+use control_node::ControlNode;
 use node_core::config_name;
 use ov_types::{NoMemory, NodeId};
-use running_model::{AgentNode, ControlNode};
 use std::alloc::Global;
 
 /// The edge of the configuration node.

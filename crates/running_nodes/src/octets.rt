@@ -1,7 +1,7 @@
 //! Octets that are in flight on a link, taken out one by one.
 ghost use Rattle.std.specs.Prelude.{◌≡◌, ◌+◌, ◌≤◌, ◌++◌, [], drop, length, slice_index_or, take, IfOk};
 ghost use Rattle.std.specs.List.{concat};
-ghost use Rattle.running_model.specs.Steps.{untaken};
+ghost use Rattle.running_nodes.specs.Steps.{untaken};
 
 use ov_link::FailingLink;
 use ov_types::NoMemory;

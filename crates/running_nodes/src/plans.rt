@@ -3,15 +3,16 @@ ghost use Rattle.std.specs.Prelude.{◌≡◌, ◌∷◌, ◌++◌, [], map, not
 ghost use Rattle.std.specs.List.{All, Contains, filter};
 ghost use Rattle.ov_types.specs.First.{same_name};
 ghost use Rattle.config_check.specs.Rules.{controller_names};
-ghost use Rattle.running_model.specs.MachineModel.Network.{config as named_config, lists};
-ghost use Rattle.running_model.specs.MachineModel.Setup.{id_of};
-ghost use Rattle.running_model.specs.Controls.{controls_of};
-ghost use Rattle.running_model.specs.Seats.{Controlling, Forwarding, agent_plan, controller_named, names_of, others_of};
+ghost use Rattle.running_nodes.specs.MachineModel.Network.{config as named_config, lists};
+ghost use Rattle.running_nodes.specs.MachineModel.Setup.{id_of};
+ghost use Rattle.running_nodes.specs.Controls.{controls_of};
+ghost use Rattle.running_nodes.specs.Seats.{Controlling, Forwarding, agent_plan, controller_named, names_of, others_of};
 ghost use Rattle.running_nodes.specs.Fresh.{opening_plan};
 
+use agent_node::AgentPlan;
 use config_types::{Node, Topology};
+use control_node::ControlPlan;
 use ov_types::{Items, Name, NoMemory, NodeId};
-use running_model::{AgentPlan, ControlPlan};
 use std::alloc::{AllocError, Global};
 
 fn id_of(node: &Node) -> NodeId

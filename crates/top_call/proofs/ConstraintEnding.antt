@@ -15,8 +15,8 @@ use Rattle.machine_model.specs.Events.{Settle, next}
 use Rattle.machine_model.specs.Setup.{opening}
 use Rattle.machine_model.specs.Steps.{is_settled}
 use Rattle.net_machine.specs.NetState.{NetState}
-use Rattle.net_machine.specs.RunningModel.Stands.{message_size, moment}
-use Rattle.net_machine.proofs.RunningModel.Sizes.{positive}
+use Rattle.net_machine.specs.RunningNodes.Stands.{message_size, moment}
+use Rattle.net_machine.proofs.RunningNodes.Sizes.{positive}
 use Rattle.net_machine.proofs.RunningLaws.HeardAtRest.{all_hear}
 use Rattle.net_machine.specs.RunningLaws.Moments.{IsMoment}
 use Rattle.net_machine.proofs.RunningLaws.Moments.{moment_of}

@@ -23,7 +23,7 @@ use Rattle.machine_model.specs.Network.{MachineState}
 use Rattle.machine_model.specs.Setup.{checked}
 use Rattle.machine_model.specs.Steps.{in_flight, is_broken, may_connect, session_of}
 use Rattle.machine_model.specs.Events.{edit_answer, event_of, forwarders, is_node, next, shown, unless}
-use Rattle.net_machine.specs.RunningModel.Stands.{message_size}
+use Rattle.net_machine.specs.RunningNodes.Stands.{message_size}
 use Rattle.schedule_script.specs.declared.tied_answer.TiedAnswer.{TiedAnswer}
 use Rattle.schedule_script.specs.declared.tied_answer.TiedAnswer.TheVariants.{Answered}
 use Rattle.net_machine.specs.MachineMomentLaws.Runs.{answer_tied, answers, run_tied, tie_broken, unless_tied}

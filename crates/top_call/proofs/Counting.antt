@@ -11,7 +11,7 @@ use Rattle.route_targets.specs.Forwarding.{forwarding}
 use Rattle.net_machine.specs.MachineLaws.Refusing.{TiedNetwork, after_tied, next_tied, tied_start}
 use Rattle.machine_model.specs.Events.{event_of, forwarders, next}
 use Rattle.machine_model.specs.Setup.{checked}
-use Rattle.net_machine.specs.RunningModel.Stands.{message_size}
+use Rattle.net_machine.specs.RunningNodes.Stands.{message_size}
 use Rattle.schedule_script.specs.declared.tied_answer.TiedAnswer.{TiedAnswer}
 use Rattle.schedule_script.specs.declared.tied_answer.TiedAnswer.TheVariants.{Answered, EditTied}
 use Rattle.net_machine.specs.MachineMomentLaws.Runs.{answer_tied, tied_moment}

@@ -13,7 +13,7 @@ use Rattle.config_types.specs.declared.event.Event.{Event}
 use Rattle.compile_answers.specs.declared.unfit.Reception.TheVariants.{Good}
 use Rattle.compile_answers.specs.Leaving.{PromisedOn}
 use Rattle.net_machine.specs.NetState.{NetState}
-use Rattle.net_machine.specs.RunningModel.Stands.{StandsFor}
+use Rattle.net_machine.specs.RunningNodes.Stands.{StandsFor}
 use Rattle.net_machine.specs.MachineMomentLaws.Runs.{tied_moment}
 use Rattle.net_machine.proofs.MachineMomentLaws.SchedulePlaced.{as_compiled, isolated}
 use Rattle.schedule_script.specs.Kept.{AreAlike, ties_in}

@@ -5,7 +5,7 @@ use Rattle.config_check.specs.Checked.{Checked}
 use Rattle.config_types.specs.declared.event.Event.{Event}
 use Rattle.net_machine.specs.MachineLaws.Refusing.{TiedNetwork, after_tied, next_tied, tied_start}
 use Rattle.machine_model.specs.Events.{event_of}
-use Rattle.net_machine.specs.RunningModel.Stands.{message_size}
+use Rattle.net_machine.specs.RunningNodes.Stands.{message_size}
 use Rattle.ov_io.specs.Inputs.{TookFront}
 use Rattle.ov_io.specs.Pieces.{IsOnItsWay}
 use Rattle.report.specs.Answers.{tied_answer_lines}

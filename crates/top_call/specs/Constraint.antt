@@ -11,7 +11,7 @@ use Rattle.node_model.specs.Maps.{Map}
 use Rattle.node_model.specs.Wants.{wanted_by_peers}
 use Rattle.machine_model.specs.Setup.{Name}
 use Rattle.machine_model.specs.Network.{MachineState}
-use Rattle.net_machine.specs.RunningModel.Stands.{moment}
+use Rattle.net_machine.specs.RunningNodes.Stands.{moment}
 use Rattle.net_machine.specs.Looking.{held_at, is_control_node}
 use Rattle.report.specs.Memberships.{asked_line, sent_line}
 use Rattle.rt_constrain.specs.Asking.{asked}

@@ -17,7 +17,7 @@ use Rattle.node_model.specs.Tables.{table}
 use Rattle.node_model.specs.Wants.{wanted_by_agent, wanted_by_peers}
 use Rattle.machine_model.specs.Network.{MachineState}
 use Rattle.machine_model.specs.Steps.{is_settled}
-use Rattle.net_machine.specs.RunningModel.Stands.{StandsFor, moment}
+use Rattle.net_machine.specs.RunningNodes.Stands.{StandsFor, moment}
 use Rattle.net_machine.specs.Looking.{held_at}
 use Rattle.net_machine.specs.NetState.{NetState}
 use Rattle.ov_json.specs.Json.{json_of}

@@ -16,7 +16,7 @@ use Rattle.schedule_script.specs.declared.answer.Answer.TheVariants.{Rounds, Tra
 use Rattle.net_machine.specs.MachineLaws.Refusing.{TiedNetwork, next_tied, tied_start}
 use Rattle.machine_model.specs.Events.{event_of}
 use Rattle.machine_model.specs.Setup.{checked}
-use Rattle.net_machine.specs.RunningModel.Stands.{message_size}
+use Rattle.net_machine.specs.RunningNodes.Stands.{message_size}
 use Rattle.schedule_script.specs.declared.tied_answer.TiedAnswer.{TiedAnswer}
 use Rattle.schedule_script.specs.declared.tied_answer.TiedAnswer.TheVariants.{Answered}
 use Rattle.net_machine.specs.MachineMomentLaws.Runs.{answer_tied}

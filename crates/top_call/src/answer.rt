@@ -6,14 +6,14 @@ ghost use Rattle.top_call.specs.Commands.{IsCommand};
 ghost use Rattle.top_call.specs.Networks.{LeavesOn, PromisesOn};
 
 use crate::command::Command;
-use compile_answers::{Reception, answer_compile, answer_reach, answer_scale};
-use decode_answers::{answer_decode, answer_graceful};
-use flow_state::answer_flows;
-use ov_io::{Sink, WriteRefusal};
 use crate::constraining::answer_constrain;
 use crate::generating::answer_gen;
 use crate::running::answer_run;
+use compile_answers::{Reception, answer_compile, answer_reach, answer_scale};
+use decode_answers::{answer_decode, answer_graceful};
+use flow_state::answer_flows;
 use net_machine::Net;
+use ov_io::{Sink, WriteRefusal};
 use std::alloc::Global;
 
 /// Writes what a command answers to an input, as it is made, and tells what the input is found to be. `constrain`, `run`

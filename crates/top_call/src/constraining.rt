@@ -4,7 +4,7 @@ ghost use Rattle.std.specs.Io.KnownBytes.{Appends};
 ghost use Rattle.serde_json.specs.View.{view};
 ghost use Rattle.config_model.specs.Input.{compile_at};
 ghost use Rattle.compile_answers.specs.Answers.{IsAnswered, WasGiven, answer_good};
-ghost use Rattle.net_machine.specs.RunningModel.Stands.{moment};
+ghost use Rattle.net_machine.specs.RunningNodes.Stands.{moment};
 ghost use Rattle.ov_io.specs.Inputs.{TookFront};
 ghost use Rattle.ov_io.specs.Pieces.{HasWriteCause};
 ghost use Rattle.top_call.specs.ConstraintAnswers.{constrain_answer, constrain_value};

@@ -7,7 +7,7 @@ ghost use Rattle.config_model.specs.Event.{run_at};
 ghost use Rattle.config_types.specs.Form.{has_event_form};
 ghost use Rattle.schedule_script.specs.Kept.{AreAlike, ties_in};
 ghost use Rattle.net_machine.specs.MachineLaws.Headline.{IsWritten};
-ghost use Rattle.net_machine.specs.RunningModel.Stands.{StandsFor};
+ghost use Rattle.net_machine.specs.RunningNodes.Stands.{StandsFor};
 ghost use Rattle.machine_model.specs.Events.{event_of};
 ghost use Rattle.machine_model.specs.Setup.{opening};
 ghost use Rattle.ov_io.specs.Inputs.{TookFront};

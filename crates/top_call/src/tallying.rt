@@ -3,7 +3,7 @@ ghost use Rattle.std.specs.Prelude.{◌≡◌, ◌≤◌, ◌<◌, ◌^◌, ◌+
 ghost use Rattle.std.specs.List.{list_all};
 ghost use Rattle.config_types.specs.Form.{has_event_form};
 ghost use Rattle.schedule_script.specs.Kept.{AreAlike, ties_in};
-ghost use Rattle.net_machine.specs.RunningModel.Stands.{StandsFor};
+ghost use Rattle.net_machine.specs.RunningNodes.Stands.{StandsFor};
 ghost use Rattle.machine_model.specs.Events.{event_of};
 ghost use Rattle.machine_model.specs.Setup.{checked};
 ghost use Rattle.net_machine.specs.MachineMomentLaws.Runs.{answer_tied, tied_moment};

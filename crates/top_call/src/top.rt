@@ -11,8 +11,8 @@ ghost use Rattle.top_call.specs.Runs.{ReadsInput, ReadsWhole, input_to, number_o
 use crate::answer::answer;
 use crate::command::{Command, command_from};
 use compile_answers::Reception;
-use ov_io::{InputRefusal, Sink, Source, WriteRefusal, read_all};
 use net_machine::{Net, leave_none};
+use ov_io::{InputRefusal, Sink, Source, WriteRefusal, read_all};
 use std::alloc::Global;
 
 /// The most octets that an input may have.

@@ -1,5 +1,5 @@
 use Rattle.std.proofs.Common.{sym, ◌∙◌, ap, refl, arith, ◌+◌, ◌-◌}
-use Rattle.running_nodes.specs.RunningModel.Steps.{cleared_from}
+use Rattle.running_nodes.specs.Steps.{cleared_from}
 use Rattle.net_machine.proofs.Going.{all_left, cleared_more, cleared_none}
 use Rattle.net_machine.proofs.Kept.{keeps_all, keeps_both, seated_kept}
 use Rattle.net_machine.proofs.clear.clear_node.Goals as goal

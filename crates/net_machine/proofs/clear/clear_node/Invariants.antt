@@ -1,5 +1,5 @@
 use Rattle.std.proofs.Common.{◌≡◌, ◌-◌}
-use Rattle.running_nodes.specs.RunningModel.Steps.{cleared_from}
+use Rattle.running_nodes.specs.Steps.{cleared_from}
 use Rattle.net_machine.specs.Seating.{Keeps}
 use Rattle.net_machine.proofs.clear.clear_node.Given as goal
 

@@ -1,6 +1,6 @@
 use Rattle.std.proofs.Common.{◌≡◌, ◌∙◌, ap, false, []}
-use Rattle.running_nodes.specs.RunningModel.Seats.{far_of}
-use Rattle.running_nodes.specs.RunningModel.Steps.{told_of_loss, with_link, with_notice}
+use Rattle.running_nodes.specs.Seats.{far_of}
+use Rattle.running_nodes.specs.Steps.{told_of_loss, with_link, with_notice}
 use Rattle.net_machine.proofs.Kept.{far_kept, keeps_both}
 use Rattle.net_machine.proofs.clear.close.Goals as goal
 

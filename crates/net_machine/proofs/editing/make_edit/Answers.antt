@@ -2,8 +2,8 @@ use Rattle.std.proofs.Common.{◌≡◌, sym, ◌∙◌, ap, subst}
 use Rattle.config_check.specs.Checked.{Checked}
 use Rattle.config_types.specs.declared.topology.Topology.{Topology}
 use Rattle.running_nodes.specs.MachineModel.Setup.{moves}
-use Rattle.running_nodes.specs.RunningModel.Moving.{MovesIf}
-use Rattle.running_nodes.specs.RunningModel.Seats.{Configuring, seat}
+use Rattle.running_nodes.specs.Moving.{MovesIf}
+use Rattle.running_nodes.specs.Seats.{Configuring, seat}
 use Rattle.net_machine.proofs.Found.{same_setup}
 use Rattle.net_machine.proofs.Made.{configured_long, configured_some, edit_controllers, edit_first, edit_keeps, edit_long, edit_made}
 use Rattle.net_machine.proofs.Made.{moved_who}

@@ -1,6 +1,6 @@
 use Rattle.std.proofs.Common.{◌≡◌, IfOk, sym, ◌∙◌, subst}
-use Rattle.running_nodes.specs.RunningModel.Seats.{Seat, seat}
-use Rattle.running_nodes.specs.RunningModel.Steps.{with_seat}
+use Rattle.running_nodes.specs.Seats.{Seat, seat}
+use Rattle.running_nodes.specs.Steps.{with_seat}
 use Rattle.net_machine.proofs.Coming.{control_within, is_controlling, joined_there, stays_there}
 use Rattle.net_machine.proofs.moving.come_at.Goals as goal
 

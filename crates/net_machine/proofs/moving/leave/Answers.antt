@@ -1,6 +1,6 @@
 use Rattle.std.proofs.Common.{ℕ, List, IfOk, sym, ◌∙◌, ap, subst, ◌≡◌}
 use Rattle.std.specs.declared.option.Option.{Option}
-use Rattle.running_nodes.specs.RunningModel.Moving.{left_at}
+use Rattle.running_nodes.specs.Moving.{left_at}
 use Rattle.net_machine.proofs.Leaving.{no_place, place_is_agents, place_node}
 use Rattle.net_machine.proofs.moving.leave.Goals as goal
 

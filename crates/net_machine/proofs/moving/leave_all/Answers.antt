@@ -1,7 +1,7 @@
 use Rattle.std.proofs.Common.{List, drop, refl, sym, ◌∙◌, ◌+◌, ◌≡◌, ap, subst}
 use Rattle.running_nodes.specs.MachineModel.Setup.{Name}
-use Rattle.running_nodes.specs.RunningModel.Moving.{left_all, left_at}
-use Rattle.running_nodes.specs.RunningModel.Seats.{Seat, seat_named}
+use Rattle.running_nodes.specs.Moving.{left_all, left_at}
+use Rattle.running_nodes.specs.Seats.{Seat, seat_named}
 use Rattle.net_machine.specs.Moving.{AreLeft, HasAgent}
 use Rattle.net_machine.specs.Seating.{AreLong}
 use Rattle.net_machine.proofs.Leaving.{first_left, leaves_more, leaves_none, rest_left}

@@ -1,5 +1,5 @@
 use Rattle.std.proofs.Common.{◌≡◌, List, drop}
-use Rattle.running_nodes.specs.RunningModel.Moving.{left_all}
+use Rattle.running_nodes.specs.Moving.{left_all}
 use Rattle.net_machine.specs.Moving.{AreLeft}
 use Rattle.net_machine.specs.Seating.{AreLong}
 use Rattle.net_machine.proofs.moving.leave_all.Given as goal

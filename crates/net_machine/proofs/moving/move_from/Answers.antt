@@ -1,7 +1,7 @@
 use Rattle.std.proofs.Common.{◌≡◌, IfOk, List, sym, subst}
 use Rattle.std.specs.List.{All}
-use Rattle.running_nodes.specs.RunningModel.Moving.{PassesAll}
-use Rattle.running_nodes.specs.RunningModel.Seats.{Seat}
+use Rattle.running_nodes.specs.Moving.{PassesAll}
+use Rattle.running_nodes.specs.Seats.{Seat}
 use Rattle.net_machine.specs.Moving.{IsControlNode}
 use Rattle.net_machine.specs.Seating.{AreLong}
 use Rattle.net_machine.proofs.Moved.{before_controls, before_long}

@@ -1,6 +1,6 @@
 use Rattle.std.proofs.Common.{ℕ, IfOk, refl, sym, ◌∙◌, subst}
 use Rattle.std.specs.declared.option.Option.{Option}
-use Rattle.running_nodes.specs.RunningModel.Moving.{PassesAt}
+use Rattle.running_nodes.specs.Moving.{PassesAt}
 use Rattle.net_machine.proofs.Moved.{pass_control}
 use Rattle.net_machine.proofs.Seating.{named_within}
 use Rattle.net_machine.proofs.moving.pass.Goals as goal

@@ -1,7 +1,7 @@
 use Rattle.std.proofs.Common.{refl, sym, ◌∙◌, subst}
 use Rattle.running_nodes.specs.MachineModel.Setup.{Name}
-use Rattle.running_nodes.specs.RunningModel.Moving.{PassesAt}
-use Rattle.running_nodes.specs.RunningModel.Seats.{seat_named}
+use Rattle.running_nodes.specs.Moving.{PassesAt}
+use Rattle.running_nodes.specs.Seats.{seat_named}
 use Rattle.net_machine.specs.Moving.{IsControlNode}
 use Rattle.net_machine.proofs.Moved.{controls_still, next_alike, passes_more, passes_none}
 use Rattle.net_machine.proofs.moving.pass_all.Goals as goal

@@ -1,7 +1,7 @@
 use Rattle.std.proofs.Common.{◌≡◌, List, drop}
 use Rattle.std.specs.List.{All}
-use Rattle.running_nodes.specs.RunningModel.Moving.{PassesAll}
-use Rattle.running_nodes.specs.RunningModel.Seats.{Seat}
+use Rattle.running_nodes.specs.Moving.{PassesAll}
+use Rattle.running_nodes.specs.Seats.{Seat}
 use Rattle.net_machine.specs.Moving.{IsControlNode}
 use Rattle.net_machine.specs.Seating.{AreLong}
 use Rattle.net_machine.proofs.moving.pass_all.Given as goal

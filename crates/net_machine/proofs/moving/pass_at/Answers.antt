@@ -1,6 +1,6 @@
 use Rattle.std.proofs.Common.{◌≡◌, List, length, sym, ◌∙◌, ap, arith, subst}
-use Rattle.running_nodes.specs.RunningModel.Seats.{Seat}
-use Rattle.running_nodes.specs.RunningModel.Steps.{cleared}
+use Rattle.running_nodes.specs.Seats.{Seat}
+use Rattle.running_nodes.specs.Steps.{cleared}
 use Rattle.net_machine.specs.Seating.{AreLong}
 use Rattle.net_machine.proofs.Kept.{with_count}
 use Rattle.net_machine.proofs.Moved.{pass_keeps}

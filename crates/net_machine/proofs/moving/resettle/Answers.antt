@@ -1,7 +1,7 @@
 use Rattle.std.proofs.Common.{◌≡◌, IfOk, List, sym, ◌∙◌, ap, subst}
 use Rattle.std.proofs.lemmas.Result.{IfOk-weaker}
-use Rattle.running_nodes.specs.RunningModel.Moving.{came, left_all}
-use Rattle.running_nodes.specs.RunningModel.Seats.{Seat}
+use Rattle.running_nodes.specs.Moving.{came, left_all}
+use Rattle.running_nodes.specs.Seats.{Seat}
 use Rattle.net_machine.specs.Moving.{AreLeft, HasControls, HasRoom}
 use Rattle.net_machine.specs.Seating.{AreLong}
 use Rattle.net_machine.proofs.Moved.{comes_few, comes_listed, move_controls, move_left, move_long, move_room}

@@ -1,5 +1,5 @@
 use Rattle.std.proofs.Common.{◌≡◌, ◌-◌, List}
-use Rattle.running_nodes.specs.RunningModel.Seats.{Seat}
+use Rattle.running_nodes.specs.Seats.{Seat}
 use Rattle.net_machine.specs.Rounds.{DeliversDues}
 use Rattle.net_machine.specs.Seating.{Keeps}
 use Rattle.net_machine.proofs.round.deliver_dues.Given as goal

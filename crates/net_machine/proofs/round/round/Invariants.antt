@@ -1,5 +1,5 @@
 use Rattle.std.proofs.Common.{◌≡◌, List, drop}
-use Rattle.running_nodes.specs.RunningModel.Seats.{Seat}
+use Rattle.running_nodes.specs.Seats.{Seat}
 use Rattle.net_machine.specs.Rounds.{DeliversAll}
 use Rattle.net_machine.specs.Seating.{Keeps}
 use Rattle.net_machine.proofs.round.round.Given as goal

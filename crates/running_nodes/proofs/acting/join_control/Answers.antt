@@ -1,6 +1,6 @@
 use Rattle.std.proofs.Common.{ap, sym, ◌∙◌, ◌≡◌, Ok, Err, OnOk, OnErr, Result, subst, arith}
 use Rattle.std.proofs.lemmas.Result.{IfOk-weaker, on_ok_weaker}
-use Rattle.running_model.specs.ControlNode.Agents.{number_for}
+use Rattle.running_nodes.specs.ControlNode.Agents.{number_for}
 use Rattle.running_nodes.specs.Cores.{IsVacated, controlled}
 use Rattle.running_nodes.proofs.Joining.{joined_seen, joined_vacated, numbers_agree}
 use Rattle.running_nodes.proofs.Vacant.{sessions_there}

@@ -1,7 +1,7 @@
 use Rattle.std.proofs.Common.{ap, subst, sym, ◌∙◌, ◌<◌, ◌&&◌, Ok, Err, OnOk, OnErr, Result, Bool, length, nat_lt, arith}
 use Rattle.std.proofs.Common.{lt-ltb}
 use Rattle.std.proofs.lemmas.Result.{on_ok_weaker}
-use Rattle.running_model.specs.ControlNode.Core.{sessions}
+use Rattle.running_nodes.specs.ControlNode.Core.{sessions}
 use Rattle.running_nodes.specs.Cores.{IsVacated, controlled}
 use Rattle.running_nodes.proofs.Leaving.{above_of, departed_seen, departed_vacated, within_others}
 use Rattle.running_nodes.proofs.Vacant.{sessions_there, taken_stays}

@@ -2,7 +2,7 @@ use Rattle.std.proofs.Common.{ap, sym, ◌∙◌, ◌<◌, ◌≡◌, ◌≢◌,
 use Rattle.std.specs.Prelude.{⊤}
 use Rattle.ov_link.specs.declared.step.NodeFault.{NodeFault}
 use Rattle.ov_link.specs.declared.step.NodeFault.TheVariants.{LinkFailed, NoMemory}
-use Rattle.running_model.specs.ConfigNode.Setting.{failed_link}
+use Rattle.running_nodes.specs.ConfigNode.Setting.{failed_link}
 use Rattle.running_nodes.proofs.SetUp.{some_control}
 use Rattle.running_nodes.proofs.Stepping.{config_long, sessions_of_config, sets_over}
 use Rattle.running_nodes.proofs.acting.set_config.Goals as goal

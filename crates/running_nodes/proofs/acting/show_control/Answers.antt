@@ -1,8 +1,8 @@
 use Rattle.std.proofs.Common.{ap, ◌∙◌}
 use Rattle.ov_types.specs.declared.rows.NodeRows.TheVariants as Rows
-use Rattle.running_model.specs.ControlNode.Core as core
-use Rattle.running_model.specs.Controls as controls
-use Rattle.running_model.specs.Controls.{controls_of}
+use Rattle.running_nodes.specs.ControlNode.Core as core
+use Rattle.running_nodes.specs.Controls as controls
+use Rattle.running_nodes.specs.Controls.{controls_of}
 use Rattle.node_laws.proofs.Quiet.{quiet_rows}
 use Rattle.running_nodes.proofs.Vacant.{same_but_quiet}
 use Rattle.running_nodes.proofs.acting.show_control.Goals as goal

@@ -1,7 +1,7 @@
 use Rattle.std.proofs.Common.{ap, sym, ◌∙◌, ◌<◌, length, arith}
 use Rattle.node_core.specs.Whole.{session_of}
 use Rattle.agent_node.specs.Core.{fresh}
-use Rattle.running_model.specs.Seats.{Forwarding}
+use Rattle.running_nodes.specs.Seats.{Forwarding}
 use Rattle.running_nodes.specs.Cores.{forwarded}
 use Rattle.running_nodes.proofs.Stepping.{never_failed, takes_over, agent_long}
 use Rattle.running_nodes.proofs.acting.take_agent.Goals as goal

@@ -1,7 +1,7 @@
 use Rattle.std.proofs.Common.{ap, sym, ◌∙◌, ◌<◌, length, arith}
 use Rattle.node_core.specs.Whole.{session_of}
 use Rattle.config_check.specs.Checked.{Checked}
-use Rattle.running_model.specs.Seats.{Configuring}
+use Rattle.running_nodes.specs.Seats.{Configuring}
 use Rattle.running_nodes.specs.Cores.{configured}
 use Rattle.running_nodes.proofs.Stepping.{never_failed, takes_over, config_long}
 use Rattle.running_nodes.proofs.acting.take_config.Goals as goal

@@ -1,6 +1,6 @@
 use Rattle.std.proofs.Common.{ap, sym, ◌∙◌, ◌<◌, length, arith}
 use Rattle.node_core.specs.Whole.{session_of}
-use Rattle.running_model.specs.ControlNode.Core.{fresh}
+use Rattle.running_nodes.specs.ControlNode.Core.{fresh}
 use Rattle.running_nodes.proofs.Stepping.{control_long, control_takes, fresh_vacated, never_failed}
 use Rattle.running_nodes.proofs.Vacant.{sessions_there, taken_stays}
 use Rattle.running_nodes.proofs.acting.take_control.Goals as goal

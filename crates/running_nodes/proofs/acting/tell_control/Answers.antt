@@ -1,6 +1,6 @@
 use Rattle.std.proofs.Common.{ap, sym, ◌∙◌, ◌<◌, length, arith}
-use Rattle.running_model.specs.ControlNode.Agents.{failed_in}
-use Rattle.running_model.specs.ControlNode.Core.{fresh}
+use Rattle.running_nodes.specs.ControlNode.Agents.{failed_in}
+use Rattle.running_nodes.specs.ControlNode.Core.{fresh}
 use Rattle.running_nodes.proofs.Stepping.{control_long, control_passes, fresh_vacated, never_failed}
 use Rattle.running_nodes.proofs.Vacant.{sessions_there}
 use Rattle.running_nodes.proofs.acting.tell_control.Goals as goal

@@ -1,6 +1,6 @@
 use Rattle.std.proofs.Common.{◌≡◌, drop}
 use Rattle.ov_types.specs.First.{same_name}
-use Rattle.running_model.specs.Seats.{index_from}
+use Rattle.running_nodes.specs.Seats.{index_from}
 use Rattle.running_nodes.proofs.finding.edge_named.Given as goal
 
 abbrev pub invariant-loop-index : goal.invariant-loop-index

@@ -1,5 +1,5 @@
 use Rattle.std.proofs.Common.{sym, ◌∙◌, ◌<◌, ◌≤◌, length, arith, refl}
-use Rattle.running_model.specs.Seats.{is_name}
+use Rattle.running_nodes.specs.Seats.{is_name}
 use Rattle.running_nodes.proofs.Found.{here, later, none_left}
 use Rattle.running_nodes.proofs.finding.index_of.Goals as goal
 

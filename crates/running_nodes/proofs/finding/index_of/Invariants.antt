@@ -1,5 +1,5 @@
 use Rattle.std.proofs.Common.{◌≡◌, drop}
-use Rattle.running_model.specs.Seats.{index_from, is_name}
+use Rattle.running_nodes.specs.Seats.{index_from, is_name}
 use Rattle.running_nodes.proofs.finding.index_of.Given as goal
 
 abbrev pub invariant-loop-index : goal.invariant-loop-index

@@ -4,7 +4,7 @@ use Rattle.std.specs.List.{All, Contains}
 use Rattle.config_check.specs.Rules.{controller_names}
 use Rattle.config_types.specs.declared.topology.Node.{Node}
 use Rattle.agent_node.specs.Core.{fresh}
-use Rattle.running_model.specs.Seats.{Forwarding, agent_plan}
+use Rattle.running_nodes.specs.Seats.{Forwarding, agent_plan}
 use Rattle.running_nodes.specs.Cores.{IsRight}
 use Rattle.running_nodes.specs.Fresh.{fresh_outer}
 use Rattle.running_nodes.proofs.Made.{all_right}

@@ -1,7 +1,7 @@
 use Rattle.std.proofs.Common.{◌≡◌, ◌++◌, map, take}
 use Rattle.std.specs.List.{All}
 use Rattle.agent_node.specs.Core.{fresh}
-use Rattle.running_model.specs.Seats.{Forwarding, agent_plan}
+use Rattle.running_nodes.specs.Seats.{Forwarding, agent_plan}
 use Rattle.running_nodes.specs.Cores.{IsRight}
 use Rattle.running_nodes.specs.Fresh.{fresh_outer}
 use Rattle.running_nodes.proofs.making.add_agents.Given as goal

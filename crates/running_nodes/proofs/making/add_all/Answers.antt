@@ -3,9 +3,9 @@ use Rattle.std.proofs.Common.{ap, subst, sym, ◌∙◌, ◌++◌, ◌∷◌, []
 use Rattle.ov_types.specs.declared.rows.NodeId.{NodeId}
 use Rattle.config_types.specs.declared.topology.Node.{Node}
 use Rattle.config_types.specs.declared.topology.Topology.{Topology}
-use Rattle.running_model.specs.ControlNode.Core as control
+use Rattle.running_nodes.specs.ControlNode.Core as control
 use Rattle.agent_node.specs.Core as agent
-use Rattle.running_model.specs.Seats.{Configuring, agent_plan}
+use Rattle.running_nodes.specs.Seats.{Configuring, agent_plan}
 use Rattle.running_nodes.specs.Cores.{IsRight, IsVacated}
 use Rattle.running_nodes.specs.Fresh.{IsSetUp, fresh_outer, opening_plan}
 use Rattle.running_nodes.specs.Halves.{Outer}

@@ -1,7 +1,7 @@
 use Rattle.std.proofs.Common.{ap, length, subst, sym, ◌+◌, ◌<◌, ◌≡◌, ◌∙◌, arith}
-use Rattle.running_model.specs.ControlNode.ControlPlan.{ControlPlan}
-use Rattle.running_model.specs.Controls.{controls_of}
-use Rattle.running_model.specs.Seats.{Controlling, others_of}
+use Rattle.running_nodes.specs.ControlNode.ControlPlan.{ControlPlan}
+use Rattle.running_nodes.specs.Controls.{controls_of}
+use Rattle.running_nodes.specs.Seats.{Controlling, others_of}
 use Rattle.running_nodes.specs.Fresh.{opening_plan}
 use Rattle.running_nodes.proofs.Made.{few_others, few_sessions}
 use Rattle.running_nodes.proofs.making.add_control.Goals as goal

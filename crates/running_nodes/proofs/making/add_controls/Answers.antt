@@ -1,9 +1,9 @@
 use Rattle.std.proofs.Common.{ap, sym, ◌≤◌, ◌++◌, ◌∙◌, List, length, map, refl, arith}
 use Rattle.std.proofs.lemmas.List.{append-nil}
 use Rattle.ov_types.specs.declared.rows.NodeId.{NodeId}
-use Rattle.running_model.specs.ControlNode.Core.{fresh}
-use Rattle.running_model.specs.Controls.{controls_of}
-use Rattle.running_model.specs.Seats.{Controlling}
+use Rattle.running_nodes.specs.ControlNode.Core.{fresh}
+use Rattle.running_nodes.specs.Controls.{controls_of}
+use Rattle.running_nodes.specs.Seats.{Controlling}
 use Rattle.running_nodes.specs.Fresh.{fresh_outer, opening_plan}
 use Rattle.running_nodes.proofs.Pushed.{all_pushed, pushed}
 use Rattle.running_nodes.proofs.making.add_controls.Goals as goal

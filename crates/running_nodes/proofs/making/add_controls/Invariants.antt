@@ -1,7 +1,7 @@
 use Rattle.std.proofs.Common.{◌≡◌, ◌++◌, map, take}
-use Rattle.running_model.specs.ControlNode.Core.{fresh}
-use Rattle.running_model.specs.Controls.{controls_of}
-use Rattle.running_model.specs.Seats.{Controlling}
+use Rattle.running_nodes.specs.ControlNode.Core.{fresh}
+use Rattle.running_nodes.specs.Controls.{controls_of}
+use Rattle.running_nodes.specs.Seats.{Controlling}
 use Rattle.running_nodes.specs.Fresh.{fresh_outer, opening_plan}
 use Rattle.running_nodes.proofs.making.add_controls.Given as goal
 

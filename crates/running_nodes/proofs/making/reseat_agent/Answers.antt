@@ -2,7 +2,7 @@ use Rattle.std.specs.Prelude.{option_copied}
 use Rattle.std.specs.Option.{option_map}
 use Rattle.std.proofs.Common.{length, subst, sym, [], ◌∷◌, ◌≡◌, ◌+◌}
 use Rattle.agent_node.specs.Core.{fresh}
-use Rattle.running_model.specs.Seats.{Forwarding, agent_plan}
+use Rattle.running_nodes.specs.Seats.{Forwarding, agent_plan}
 use Rattle.running_nodes.specs.Fresh.{fresh_agents_of, fresh_outer, fresh_outers_of, replaced_at}
 use Rattle.running_nodes.proofs.Seating.{both_within, none_new, one_more_within, one_new, right_replaced}
 use Rattle.running_nodes.proofs.making.reseat_agent.Goals as goal

@@ -1,8 +1,8 @@
 use Rattle.std.proofs.Common.{ap, arith, get_or, length, sym, ◌<◌, ◌≡◌, ◌∙◌}
 use Rattle.std.proofs.lemmas.List.{length-set}
-use Rattle.running_model.specs.Moving.{joined as joined_by_agent}
-use Rattle.running_model.specs.Steps.{with_seat}
-use Rattle.running_model.specs.Seats.{Configuring, Controlling, Seat, nobody}
+use Rattle.running_nodes.specs.Moving.{joined as joined_by_agent}
+use Rattle.running_nodes.specs.Steps.{with_seat}
+use Rattle.running_nodes.specs.Seats.{Configuring, Controlling, Seat, nobody}
 use Rattle.running_nodes.specs.Halves.{inner, joined}
 use Rattle.running_nodes.proofs.Halves.{as_many_seats, seat_at}
 use Rattle.running_nodes.proofs.Seating.{first_left, halves_now, not_first}

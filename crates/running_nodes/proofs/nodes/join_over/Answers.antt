@@ -2,7 +2,7 @@ use Rattle.std.proofs.Common.{ap, arith, length, ◌≡◌, ◌<◌}
 use Rattle.std.proofs.lemmas.Result.{on_ok_weaker}
 use Rattle.running_nodes.specs.Changes.{joined_inner}
 use Rattle.running_nodes.specs.Halves.{inner}
-use Rattle.running_model.specs.Seats.{others_of}
+use Rattle.running_nodes.specs.Seats.{others_of}
 use Rattle.running_nodes.proofs.Moved.{joined_halves, joined_whole}
 use Rattle.running_nodes.proofs.Seating.{now_there, number_near, one_set}
 use Rattle.running_nodes.proofs.nodes.join_over.Goals as goal

@@ -1,8 +1,8 @@
 use Rattle.std.proofs.Common.{ap, arith, length, subst, sym, ◌<◌, ◌≡◌, ◌∙◌}
 use Rattle.std.proofs.lemmas.Result.{IfOk-weaker}
-use Rattle.running_model.specs.Moving.{vacated}
-use Rattle.running_model.specs.Seats.{Seat}
-use Rattle.running_model.specs.Steps.{with_seat}
+use Rattle.running_nodes.specs.Moving.{vacated}
+use Rattle.running_nodes.specs.Seats.{Seat}
+use Rattle.running_nodes.specs.Steps.{with_seat}
 use Rattle.running_nodes.specs.Halves.{AreHalves, Outer, inner, joined, whole}
 use Rattle.running_nodes.proofs.Halves.{as_many_seats}
 use Rattle.running_nodes.proofs.Seating.{halves_now}

@@ -1,10 +1,10 @@
 use Rattle.std.proofs.Common.{IfOk, List, arith, subst, sym, ◌≡◌, ◌+◌}
 use Rattle.running_nodes.specs.Halves.{AreAllHalves, Inner, Outer, joined}
 use Rattle.std.specs.Prelude.{drop, option_copied}
-use Rattle.running_model.specs.Seats.{index_from}
+use Rattle.running_nodes.specs.Seats.{index_from}
 use Rattle.running_nodes.specs.Cores.{inners}
 use Rattle.ov_types.specs.First.{same_name}
-use Rattle.running_model.specs.Moving.{reseated, seats_of}
+use Rattle.running_nodes.specs.Moving.{reseated, seats_of}
 use Rattle.running_nodes.proofs.Seating.{found_within, many_inners, reseated_all}
 use Rattle.running_nodes.proofs.nodes.reseat_at.Goals as goal
 

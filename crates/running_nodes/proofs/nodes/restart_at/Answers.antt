@@ -1,7 +1,7 @@
 use Rattle.std.proofs.Common.{List, ap, arith, length, set, sym, ◌<◌, ◌≡◌, ◌∙◌}
 use Rattle.std.proofs.lemmas.List.{get_or-set_same}
-use Rattle.running_model.specs.Seats.{Seat}
-use Rattle.running_model.specs.Steps.{emptied}
+use Rattle.running_nodes.specs.Seats.{Seat}
+use Rattle.running_nodes.specs.Steps.{emptied}
 use Rattle.running_nodes.specs.Changes.{emptied_inner}
 use Rattle.running_nodes.specs.Halves.{Inner, Outer, inner, joined, no_inner, whole}
 use Rattle.running_nodes.proofs.Halves.{as_many_seats, halves_at}

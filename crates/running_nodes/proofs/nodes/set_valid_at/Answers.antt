@@ -1,5 +1,5 @@
 use Rattle.std.proofs.Common.{arith, ap, length, sym, ◌<◌, ◌≡◌, ◌∙◌, refl}
-use Rattle.running_model.specs.Seats.{Seat}
+use Rattle.running_nodes.specs.Seats.{Seat}
 use Rattle.running_nodes.proofs.Halves.{as_many, seat_at}
 use Rattle.running_nodes.proofs.Standing.{sets_at}
 use Rattle.running_nodes.proofs.nodes.set_valid_at.Goals as goal

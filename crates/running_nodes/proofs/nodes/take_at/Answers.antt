@@ -1,6 +1,6 @@
 use Rattle.std.proofs.Common.{ap, arith, true, false, length, subst, sym, ◌<◌, ◌≡◌, ◌∙◌}
 use Rattle.node_core.specs.Whole.{Comes, session_of}
-use Rattle.running_model.specs.Seats.{Seat, is_live, other}
+use Rattle.running_nodes.specs.Seats.{Seat, is_live, other}
 use Rattle.running_nodes.specs.Halves.{Outer, joined}
 use Rattle.running_nodes.proofs.Halves.{as_many_seats, halves_at, seat_at}
 use Rattle.running_nodes.proofs.Links.{edge_of, even_of, links_long}

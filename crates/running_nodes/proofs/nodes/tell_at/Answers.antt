@@ -1,5 +1,5 @@
 use Rattle.std.proofs.Common.{ap, arith, length, sym, ◌<◌, ◌≡◌, ◌∙◌}
-use Rattle.running_model.specs.Seats.{Seat}
+use Rattle.running_nodes.specs.Seats.{Seat}
 use Rattle.running_nodes.specs.Halves.{Outer, joined}
 use Rattle.running_nodes.proofs.Halves.{as_many_seats, halves_at, seat_at}
 use Rattle.running_nodes.proofs.Links.{edge_of, even_of, links_long}

@@ -1,7 +1,7 @@
 use Rattle.std.proofs.Common.{ap, subst, ◌∙◌, map}
 use Rattle.config_check.specs.Checked.{Checked}
-use Rattle.running_model.specs.Seats.{whos}
-use Rattle.running_model.specs.MachineModel.Setup.{opening}
+use Rattle.running_nodes.specs.Seats.{whos}
+use Rattle.running_nodes.specs.MachineModel.Setup.{opening}
 use Rattle.running_nodes.specs.Cores.{inners}
 use Rattle.running_nodes.specs.Fresh.{IsSetUp, fresh_outer}
 use Rattle.running_nodes.proofs.Made.{inners_are, made_few, made_halves, made_seats}

@@ -1,6 +1,6 @@
 use Rattle.std.proofs.Common.{◌≡◌, ◌+◌, ◌++◌, drop, length, take}
 use Rattle.std.specs.List.{concat}
-use Rattle.running_model.specs.Steps.{untaken}
+use Rattle.running_nodes.specs.Steps.{untaken}
 use Rattle.running_nodes.proofs.octets.take_octets.Given as goal
 
 abbrev pub invariant-loop-message : goal.invariant-loop-message

@@ -1,10 +1,10 @@
 use Rattle.std.proofs.Common.{ap, subst, sym, ◌<◌, ◌≤◌, ◌≡◌, ◌∙◌, [], List, get_or, length, map, arith}
 use Rattle.std.specs.List.{Contains}
 use Rattle.config_check.specs.Rules.{controller_names}
-use Rattle.running_model.specs.MachineModel.Setup.{Name, id_of}
+use Rattle.running_nodes.specs.MachineModel.Setup.{Name, id_of}
 use Rattle.ov_types.specs.declared.rows.NodeId.{NodeId}
 use Rattle.agent_node.specs.declared.plan.AgentPlan.{AgentPlan}
-use Rattle.running_model.specs.Seats.{controller_named}
+use Rattle.running_nodes.specs.Seats.{controller_named}
 use Rattle.running_nodes.proofs.Pushed.{all_pushed, pushed}
 use Rattle.running_nodes.proofs.plans.agent_plan.Goals as goal
 

@@ -3,7 +3,7 @@ use Rattle.std.specs.Option.{unwrap_or}
 use Rattle.std.specs.declared.option.Option.{Option}
 use Rattle.ov_types.specs.First.{same_name}
 use Rattle.ov_types.specs.declared.rows.NodeId.{NodeId}
-use Rattle.running_model.specs.Seats.{no_node}
+use Rattle.running_nodes.specs.Seats.{no_node}
 use Rattle.running_nodes.proofs.Found.{found_here, found_later, is_found, none_found}
 use Rattle.running_nodes.proofs.plans.controller_named.Goals as goal
 

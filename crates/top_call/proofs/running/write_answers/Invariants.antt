@@ -1,6 +1,6 @@
 use Rattle.std.proofs.Common.{◌≡◌, ◌++◌, [], false}
 use Rattle.schedule_script.specs.Kept.{AreAlike, ties_in}
-use Rattle.net_machine.specs.RunningModel.Stands.{StandsFor}
+use Rattle.net_machine.specs.RunningNodes.Stands.{StandsFor}
 use Rattle.ov_io.specs.Pieces.{IsOnItsWay}
 use Rattle.net_machine.specs.MachineMomentLaws.Runs.{tied_moment}
 use Rattle.top_call.specs.Schedules.{run_text}

@@ -1,6 +1,6 @@
 use Rattle.std.proofs.Common.{◌≡◌, ◌++◌, length, false}
 use Rattle.schedule_script.specs.Kept.{AreAlike, ties_in}
-use Rattle.net_machine.specs.RunningModel.Stands.{StandsFor}
+use Rattle.net_machine.specs.RunningNodes.Stands.{StandsFor}
 use Rattle.net_machine.specs.MachineMomentLaws.Runs.{tied_moment}
 use Rattle.top_call.specs.Tallies.{tally}
 use Rattle.top_call.proofs.Counting.{IsFew}

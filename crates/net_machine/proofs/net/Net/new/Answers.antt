@@ -3,8 +3,8 @@ use Rattle.config_check.specs.Checked.{Checked}
 use Rattle.schedule_script.specs.Kept.{AreAlike, ties_in}
 use Rattle.schedule_script.specs.Tying.{ties_of}
 use Rattle.running_nodes.specs.MachineModel.Setup.{opening as opening_setup}
-use Rattle.running_nodes.specs.RunningModel.Seats.{whos}
-use Rattle.running_nodes.specs.RunningModel.Steps.{fresh_seat}
+use Rattle.running_nodes.specs.Seats.{whos}
+use Rattle.running_nodes.specs.Steps.{fresh_seat}
 use Rattle.net_machine.specs.NetState.{NetState}
 use Rattle.net_machine.proofs.net.Net.new.Goals as goal
 

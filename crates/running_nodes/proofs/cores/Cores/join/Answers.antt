@@ -1,8 +1,8 @@
 use Rattle.std.proofs.Common.{arith, ap, subst, sym, ◌≡◌, ◌<◌, ◌∙◌, length}
 use Rattle.std.proofs.lemmas.Result.{IfOk-weaker, on_err_weaker, on_ok_weaker}
-use Rattle.running_model.specs.Controls.{controls_of}
-use Rattle.running_model.specs.Moving.{number_for}
-use Rattle.running_model.specs.Seats.{Configuring, Controlling, Forwarding, others_of}
+use Rattle.running_nodes.specs.Controls.{controls_of}
+use Rattle.running_nodes.specs.Moving.{number_for}
+use Rattle.running_nodes.specs.Seats.{Configuring, Controlling, Forwarding, others_of}
 use Rattle.running_nodes.specs.Changes.{joined_inner}
 use Rattle.running_nodes.specs.Halves.{Inner}
 use Rattle.running_nodes.proofs.Numbers.{agent_is, agent_within, config_is, control_is, standing_at}

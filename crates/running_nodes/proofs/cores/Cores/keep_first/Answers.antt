@@ -1,6 +1,6 @@
 use Rattle.std.proofs.Common.{[], ◌∷◌, ◌∙◌, List, ap}
 use Rattle.agent_node.specs.Core as agent
-use Rattle.running_model.specs.ControlNode.Core as control
+use Rattle.running_nodes.specs.ControlNode.Core as control
 use Rattle.running_nodes.specs.Cores.{inners}
 use Rattle.running_nodes.specs.Halves.{Inner, inner}
 use Rattle.running_nodes.proofs.cores.Cores.keep_first.Goals as goal

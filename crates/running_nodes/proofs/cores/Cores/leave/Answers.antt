@@ -1,6 +1,6 @@
 use Rattle.std.proofs.Common.{arith, ap, subst, sym, ◌≡◌, ◌∙◌, length}
 use Rattle.std.proofs.lemmas.Result.{on_err_weaker, on_ok_weaker}
-use Rattle.running_model.specs.Seats.{Configuring, Controlling, Forwarding, others_of}
+use Rattle.running_nodes.specs.Seats.{Configuring, Controlling, Forwarding, others_of}
 use Rattle.running_nodes.specs.Changes.{IsAlone, vacated_inner}
 use Rattle.running_nodes.specs.Halves.{Inner}
 use Rattle.running_nodes.proofs.Numbers.{agent_is, agent_within, config_is, control_is, standing_at}

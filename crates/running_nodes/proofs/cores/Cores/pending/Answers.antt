@@ -1,7 +1,7 @@
 use Rattle.std.proofs.Common.{arith, ap, subst, sym, ◌∙◌, ◌<◌, length}
 use Rattle.node_core.specs.Keeping.{kept_at}
-use Rattle.running_model.specs.Controls.{controls_of}
-use Rattle.running_model.specs.Seats.{Configuring, Controlling, Forwarding, others_of}
+use Rattle.running_nodes.specs.Controls.{controls_of}
+use Rattle.running_nodes.specs.Seats.{Configuring, Controlling, Forwarding, others_of}
 use Rattle.running_nodes.specs.Halves.{Inner}
 use Rattle.running_nodes.proofs.Numbers.{agent_is, config_is, control_is}
 use Rattle.running_nodes.proofs.Stepping.{sessions_of_agent, sessions_of_config}

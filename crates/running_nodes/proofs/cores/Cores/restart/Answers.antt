@@ -1,5 +1,5 @@
 use Rattle.std.proofs.Common.{arith, ap, subst, sym, ◌∙◌, ◌≡◌, length, set}
-use Rattle.running_model.specs.Seats.{others_of}
+use Rattle.running_nodes.specs.Seats.{others_of}
 use Rattle.running_nodes.specs.Changes.{emptied_inner}
 use Rattle.running_nodes.specs.Halves.{Inner}
 use Rattle.running_nodes.proofs.Numbers.{agent_is, agent_set, control_is, control_set}

@@ -1,10 +1,10 @@
 use Rattle.std.proofs.Common.{arith, ap, subst, sym, ◌≡◌, ◌<◌, IfOk, None, Some, true, false, get_or, length, set}
 use Rattle.node_core.specs.Whole.{Comes, session_of}
-use Rattle.running_model.specs.ControlNode.ControlPlan.{ControlPlan}
+use Rattle.running_nodes.specs.ControlNode.ControlPlan.{ControlPlan}
 use Rattle.agent_node.specs.declared.plan.AgentPlan.{AgentPlan}
-use Rattle.running_model.specs.MachineModel.Setup.{Name}
-use Rattle.running_model.specs.Controls.{controls_of}
-use Rattle.running_model.specs.Seats.{Controlling, Forwarding, name_of, others_of}
+use Rattle.running_nodes.specs.MachineModel.Setup.{Name}
+use Rattle.running_nodes.specs.Controls.{controls_of}
+use Rattle.running_nodes.specs.Seats.{Controlling, Forwarding, name_of, others_of}
 use Rattle.running_nodes.specs.Changes.{TakesOver}
 use Rattle.running_nodes.specs.Cores.{controlled, forwarded, inners}
 use Rattle.running_nodes.specs.Halves.{Inner, inner, live}

@@ -1,7 +1,7 @@
 use Rattle.std.proofs.Common.{arith, ap, subst, sym, ◌≡◌, ◌∙◌, IfOk, length, set}
-use Rattle.running_model.specs.ControlNode.ControlPlan.{ControlPlan}
-use Rattle.running_model.specs.Controls.{controls_of}
-use Rattle.running_model.specs.Seats.{Configuring, Controlling, Forwarding, name_of, others_of}
+use Rattle.running_nodes.specs.ControlNode.ControlPlan.{ControlPlan}
+use Rattle.running_nodes.specs.Controls.{controls_of}
+use Rattle.running_nodes.specs.Seats.{Configuring, Controlling, Forwarding, name_of, others_of}
 use Rattle.running_nodes.specs.Changes.{PassesOver}
 use Rattle.running_nodes.specs.Cores.{controlled, inners}
 use Rattle.running_nodes.specs.Halves.{Inner, inner}

@@ -1,7 +1,7 @@
 use Rattle.std.proofs.Common.{ap, sym, ◌∙◌, ◌≤◌, ◌≡◌, false, Option, List, [], length, take, refl, arith}
 use Rattle.std.proofs.lemmas.List.{length-take-le}
-use Rattle.running_model.specs.MachineModel.Setup.{Name}
-use Rattle.running_model.specs.Steps.{all_of}
+use Rattle.running_nodes.specs.MachineModel.Setup.{Name}
+use Rattle.running_nodes.specs.Steps.{all_of}
 use Rattle.running_nodes.specs.Halves.{accepted_of, breaks_of}
 use Rattle.ov_link.specs.FailingState.{FailingState}
 use Rattle.running_nodes.proofs.Links.{fresh_accepted, fresh_breaks, fresh_link}

@@ -1,5 +1,5 @@
 use Rattle.std.proofs.Common.{◌≡◌, false, take}
-use Rattle.running_model.specs.Steps.{all_of}
+use Rattle.running_nodes.specs.Steps.{all_of}
 use Rattle.running_nodes.proofs.Links.{fresh_link}
 use Rattle.running_nodes.proofs.edges.Edge.new.Given as goal
 

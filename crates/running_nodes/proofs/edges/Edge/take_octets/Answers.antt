@@ -1,6 +1,6 @@
 use Rattle.std.proofs.Common.{◌≡◌, ◌+◌, List, ℕ}
 use Rattle.std.proofs.lemmas.Result.{IfOk-weaker}
-use Rattle.running_model.specs.Steps.{untaken}
+use Rattle.running_nodes.specs.Steps.{untaken}
 use Rattle.running_nodes.proofs.Links.{links_changed}
 use Rattle.running_nodes.proofs.edges.Edge.take_octets.Goals as goal
 

@@ -2,7 +2,7 @@ use Rattle.std.proofs.Common.{[], ap, arith, get_or, set}
 use Rattle.std.proofs.lemmas.List.{length-set}
 use Rattle.std.proofs.lemmas.Result.{on_err_weaker, on_ok_weaker}
 use Rattle.ov_link.specs.Breaks.{with_break}
-use Rattle.running_model.specs.Seats.{Seat}
+use Rattle.running_nodes.specs.Seats.{Seat}
 use Rattle.running_nodes.specs.Halves.{Outer, Standing, inner, whole}
 use Rattle.running_nodes.proofs.Standing.{edge_there, halves_with, seats_same, seats_with, sessions_are}
 use Rattle.running_nodes.proofs.nodes.Nodes.add_break.Goals as goal

@@ -1,5 +1,5 @@
 use Rattle.std.proofs.Common.{List, ap, option_copied, subst, sym, ◌∙◌}
-use Rattle.running_model.specs.Seats.{Seat, seat}
+use Rattle.running_nodes.specs.Seats.{Seat, seat}
 use Rattle.running_nodes.specs.Cores.{HoldsAs, held_by}
 use Rattle.running_nodes.specs.Halves.{Standing}
 use Rattle.running_nodes.proofs.Halves.{seat_at}

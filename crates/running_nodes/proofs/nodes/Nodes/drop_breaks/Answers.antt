@@ -1,6 +1,6 @@
 use Rattle.std.proofs.Common.{◌≡◌, ◌++◌, List, ap, arith, drop, length, map, subst, sym, take, ◌∙◌}
 use Rattle.std.proofs.lemmas.List.{length-map}
-use Rattle.running_model.specs.Steps.{unbroken}
+use Rattle.running_nodes.specs.Steps.{unbroken}
 use Rattle.running_nodes.specs.Changes.{unbroken_outer}
 use Rattle.running_nodes.specs.Halves.{AreAllHalves, Outer, Standing, joined}
 use Rattle.running_nodes.proofs.Cleared.{all_written}

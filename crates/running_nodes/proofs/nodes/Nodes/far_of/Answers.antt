@@ -1,6 +1,6 @@
 use Rattle.std.proofs.Common.{List, Option, None, Some, ap, arith, get_or, length, option_and_then, sym, ◌<◌, ◌≡◌, ◌∙◌}
-use Rattle.running_model.specs.MachineModel.Setup.{Name}
-use Rattle.running_model.specs.Seats.{Seat, name_of, other, place_of, seat}
+use Rattle.running_nodes.specs.MachineModel.Setup.{Name}
+use Rattle.running_nodes.specs.Seats.{Seat, name_of, other, place_of, seat}
 use Rattle.running_nodes.specs.Halves.{Standing}
 use Rattle.running_nodes.proofs.Standing.{below_all, halves_are, others_are, whole_is}
 use Rattle.running_nodes.proofs.nodes.Nodes.far_of.Goals as goal

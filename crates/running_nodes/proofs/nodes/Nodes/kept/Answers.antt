@@ -1,5 +1,5 @@
 use Rattle.std.proofs.Common.{List, ap, arith, length, sym, ◌≡◌, ◌∙◌, refl}
-use Rattle.running_model.specs.Seats.{Seat, kept_in, seat}
+use Rattle.running_nodes.specs.Seats.{Seat, kept_in, seat}
 use Rattle.running_nodes.specs.Halves.{Standing, joined}
 use Rattle.running_nodes.proofs.Halves.{seat_at}
 use Rattle.running_nodes.proofs.Standing.{below_all, below_inner, posts_are}

@@ -1,9 +1,9 @@
 use Rattle.std.proofs.Common.{IfOk, map, sym, ◌∙◌, ◌≡◌, ap, subst}
 use Rattle.config_check.specs.Checked.{Checked}
-use Rattle.running_model.specs.ConfigNode.Core.{Core, fresh}
-use Rattle.running_model.specs.Seats.{whos}
-use Rattle.running_model.specs.Steps.{fresh_seat}
-use Rattle.running_model.specs.MachineModel.Setup.{opening}
+use Rattle.running_nodes.specs.ConfigNode.Core.{Core, fresh}
+use Rattle.running_nodes.specs.Seats.{whos}
+use Rattle.running_nodes.specs.Steps.{fresh_seat}
+use Rattle.running_nodes.specs.MachineModel.Setup.{opening}
 use Rattle.running_nodes.specs.Halves.{Standing}
 use Rattle.running_nodes.proofs.nodes.Nodes.new.Goals as goal
 

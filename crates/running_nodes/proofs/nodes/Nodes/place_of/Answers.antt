@@ -2,9 +2,9 @@ use Rattle.std.proofs.Common.{List, ap, arith, length, sym, ◌<◌, ◌≡◌, 
 use Rattle.std.specs.declared.option.Option.{Option}
 use Rattle.std.specs.Option.{option_map}
 use Rattle.ov_types.specs.First.{same_name}
-use Rattle.running_model.specs.MachineModel.Setup.{Name}
-use Rattle.running_model.specs.Seats.{Seat, index_from, is_name, place_at, seat, seat_named, session_with}
-use Rattle.running_model.specs.declared.place.SessionPlace.{SessionPlace}
+use Rattle.running_nodes.specs.MachineModel.Setup.{Name}
+use Rattle.running_nodes.specs.Seats.{Seat, index_from, is_name, place_at, seat, seat_named, session_with}
+use Rattle.running_nodes.specs.declared.place.SessionPlace.{SessionPlace}
 use Rattle.running_nodes.specs.Halves.{Outer, Standing}
 use Rattle.running_nodes.proofs.Found.{found_below}
 use Rattle.running_nodes.proofs.Halves.{named_at}

@@ -1,7 +1,7 @@
 use Rattle.std.proofs.Common.{[], List, ap, arith, drop, get_or, length, set, subst, sym, ◌≡◌, ◌∙◌}
 use Rattle.std.specs.List.{slice_get}
 use Rattle.std.proofs.lemmas.List.{length-set}
-use Rattle.running_model.specs.Seats.{Seat, seat}
+use Rattle.running_nodes.specs.Seats.{Seat, seat}
 use Rattle.running_nodes.specs.Halves.{IsEven, Outer, Standing, inner, joined, whole}
 use Rattle.running_nodes.proofs.Standing.{below_all, edge_changed, edge_kept, even_links, halves_are, others_are, whole_is}
 use Rattle.running_nodes.proofs.nodes.Nodes.pop.Goals as goal

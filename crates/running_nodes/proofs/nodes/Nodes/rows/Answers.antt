@@ -1,10 +1,10 @@
 use Rattle.std.proofs.Common.{List, IfOk, ap, subst, sym, ◌≡◌, ◌∙◌}
-use Rattle.running_model.specs.Seats.{Seat, seat}
+use Rattle.running_nodes.specs.Seats.{Seat, seat}
 use Rattle.running_nodes.specs.Halves.{Standing}
 use Rattle.running_nodes.proofs.Halves.{seat_at}
 use Rattle.running_nodes.proofs.Standing.{below_all, below_inner}
 use Rattle.ov_types.specs.declared.rows.NodeRows.{NodeRows}
-use Rattle.running_model.specs.Steps.{shown_by}
+use Rattle.running_nodes.specs.Steps.{shown_by}
 use Rattle.running_nodes.proofs.nodes.Nodes.rows.Goals as goal
 
 pub rows-requires-clause-node : goal.rows-requires-clause-node

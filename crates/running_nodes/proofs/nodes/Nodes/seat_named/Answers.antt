@@ -1,6 +1,6 @@
 use Rattle.std.proofs.Common.{List, ap, ◌∙◌}
 use Rattle.ov_types.specs.First.{same_name}
-use Rattle.running_model.specs.Seats.{Seat, index_from, seat_named}
+use Rattle.running_nodes.specs.Seats.{Seat, index_from, seat_named}
 use Rattle.running_nodes.specs.Halves.{Outer, Standing}
 use Rattle.running_nodes.proofs.Halves.{named_at}
 use Rattle.running_nodes.proofs.nodes.Nodes.seat_named.Goals as goal

@@ -1,5 +1,5 @@
 use Rattle.std.proofs.Common.{[], List, ap, arith, get_or, length, sym, ◌≡◌, ◌∙◌}
-use Rattle.running_model.specs.Seats.{Seat, seat}
+use Rattle.running_nodes.specs.Seats.{Seat, seat}
 use Rattle.running_nodes.specs.Halves.{Standing}
 use Rattle.running_nodes.proofs.Standing.{below_all, others_are, whole_is}
 use Rattle.running_nodes.proofs.nodes.Nodes.sent.Goals as goal

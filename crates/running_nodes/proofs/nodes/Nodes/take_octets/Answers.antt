@@ -1,8 +1,8 @@
 use Rattle.std.proofs.Common.{[], ◌+◌, ◌∙◌, ap, arith, drop, get_or, set, sym, take}
 use Rattle.std.proofs.lemmas.List.{length-set}
 use Rattle.std.specs.List.{concat}
-use Rattle.running_model.specs.Seats.{Seat}
-use Rattle.running_model.specs.Steps.{untaken}
+use Rattle.running_nodes.specs.Seats.{Seat}
+use Rattle.running_nodes.specs.Steps.{untaken}
 use Rattle.running_nodes.specs.Halves.{Outer, Standing, inner, whole}
 use Rattle.running_nodes.proofs.Standing.{edge_there, halves_with, seat_there, seats_with, sessions_are}
 use Rattle.running_nodes.proofs.nodes.Nodes.take_octets.Goals as goal

@@ -1,9 +1,9 @@
 use Rattle.std.proofs.Common.{List, ap, sym, ◌∙◌}
-use Rattle.running_model.specs.Seats.{Seat}
+use Rattle.running_nodes.specs.Seats.{Seat}
 use Rattle.running_nodes.specs.Halves.{Standing}
 use Rattle.running_nodes.proofs.Halves.{forwarded_by}
 use Rattle.route_targets.specs.Forwarding.{Forwarder, forwarding}
-use Rattle.running_model.specs.Steps.{forwarders_of}
+use Rattle.running_nodes.specs.Steps.{forwarders_of}
 use Rattle.running_nodes.proofs.nodes.Nodes.trace.Goals as goal
 
 pub returns-clause-outcome : goal.returns-clause-outcome

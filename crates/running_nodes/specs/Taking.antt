@@ -7,8 +7,8 @@ use Rattle.agent_node.specs.NodeModel.Maps.{Map}
 use Rattle.agent_node.specs.NodeModel.Step.{Beginning, Phase, Opened, Post}
 use Rattle.config_node.specs.MachineModel.Session.{Message, Open, Keepalive, Hello, Carries}
 use Rattle.config_node.specs.MachineModel.Moments.{cell}
-use Rattle.running_model.specs.Seats.{Who}
-use Rattle.running_model.specs.Stands.{octets_of}
+use Rattle.running_nodes.specs.Seats.{Who}
+use Rattle.running_nodes.specs.Stands.{octets_of}
 
 -- a right OPEN is answered with a KEEPALIVE, and nothing else is answered
 abbrev pub replies_to : Bool → Phase → Message → List Message

@@ -21,10 +21,10 @@ use Rattle.control_node.specs.Beginning as control
 use Rattle.control_node.specs.declared.cause.NodeCause.{NodeCause}
 use Rattle.agent_node.specs.Beginning as agent
 use Rattle.agent_node.specs.Core as agents
-use Rattle.running_model.specs.Controls as controls
-use Rattle.running_model.specs.Seats.{Who, Configuring, Controlling, Forwarding, Seat, breaks_at, breaks_in, far_of}
-use Rattle.running_model.specs.Seats.{is_down_at, kept_in, kind_of, link, live_at, others_of, seat}
-use Rattle.running_model.specs.declared.place.SessionPlace.{SessionPlace}
+use Rattle.running_nodes.specs.Controls as controls
+use Rattle.running_nodes.specs.Seats.{Who, Configuring, Controlling, Forwarding, Seat, breaks_at, breaks_in, far_of}
+use Rattle.running_nodes.specs.Seats.{is_down_at, kept_in, kind_of, link, live_at, others_of, seat}
+use Rattle.running_nodes.specs.declared.place.SessionPlace.{SessionPlace}
 
 -- ---- an input makes this of its end, where these octets were kept there, and these are kept then
 abbrev pub BeginsAt : Who → ℕ → Post → List ℕ → Input → Beginning → List ℕ → Type 0

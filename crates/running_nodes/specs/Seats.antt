@@ -18,9 +18,9 @@ use Rattle.config_node.specs.MachineModel.Session.{Role, Configuration, Controll
 use Rattle.config_node.specs.Core as configuration
 use Rattle.agent_node.specs.Core as agent
 use Rattle.agent_node.specs.declared.plan.AgentPlan.{AgentPlan}
-use Rattle.running_model.specs.Controls as control
-use Rattle.running_model.specs.Controls.{Controls}
-use Rattle.running_model.specs.declared.place.SessionPlace.{SessionPlace}
+use Rattle.running_nodes.specs.Controls as control
+use Rattle.running_nodes.specs.Controls.{Controls}
+use Rattle.running_nodes.specs.declared.place.SessionPlace.{SessionPlace}
 
 -- ---- who is there
 pub data Who : Type 0 where

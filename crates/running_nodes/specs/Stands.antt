@@ -20,9 +20,9 @@ use Rattle.config_node.specs.MachineModel.Session.{Message, Open, Keepalive, Hel
 use Rattle.config_node.specs.MachineModel.Network.{MachineState, start}
 use Rattle.config_node.specs.MachineModel.Steps.{session_of}
 use Rattle.config_node.specs.MachineModel.Events.{after, event_of}
-use Rattle.running_model.specs.Seats.{Who, Controlling, Seat, whos, name_of, others_of}
-use Rattle.running_model.specs.Seats.{breaks_in, far_of, kept_at, kept_in, link, link_at, notice, notice_at, other, seat, taken_in}
-use Rattle.running_model.specs.declared.place.SessionPlace.{SessionPlace}
+use Rattle.running_nodes.specs.Seats.{Who, Controlling, Seat, whos, name_of, others_of}
+use Rattle.running_nodes.specs.Seats.{breaks_in, far_of, kept_at, kept_in, link, link_at, notice, notice_at, other, seat, taken_in}
+use Rattle.running_nodes.specs.declared.place.SessionPlace.{SessionPlace}
 
 -- ---- the octets of a message on a link
 -- the OPEN of a control node

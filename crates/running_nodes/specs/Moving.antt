@@ -12,10 +12,10 @@ use Rattle.agent_node.specs.NodeModel.Step.{nothing}
 use Rattle.config_node.specs.MachineModel.Setup.{Move, Name, id_of, is_listed, with_agent, without_agent}
 use Rattle.config_node.specs.MachineModel.Session.{Role, Agent}
 use Rattle.config_node.specs.MachineModel.Network.{same_role}
-use Rattle.running_model.specs.Controls.{Controls, first_agent}
-use Rattle.running_model.specs.Seats.{Who, Configuring, Controlling, Forwarding, Seat, agent_plan, name_of, role_of, seat}
-use Rattle.running_model.specs.Seats.{seat_named, session_with}
-use Rattle.running_model.specs.Steps.{Passes, cleared, fresh_seat, with_seat}
+use Rattle.running_nodes.specs.Controls.{Controls, first_agent}
+use Rattle.running_nodes.specs.Seats.{Who, Configuring, Controlling, Forwarding, Seat, agent_plan, name_of, role_of, seat}
+use Rattle.running_nodes.specs.Seats.{seat_named, session_with}
+use Rattle.running_nodes.specs.Steps.{Passes, cleared, fresh_seat, with_seat}
 
 -- ---- an agent goes from a control node
 -- there is nothing at an end any more

@@ -4,7 +4,7 @@ use Rattle.config_node.specs.MachineModel.Moments.{ArePositive}
 use Rattle.config_node.specs.MachineModel.Session.{Open, Keepalive, Hello, Carries}
 use Rattle.agent_node.specs.ItemWire.Records.{spelling}
 use Rattle.agent_node.specs.ItemWire.Item.TheVariants.{Hello as HelloItem}
-use Rattle.running_model.specs.Stands.{at_least_one, carried_octets, message_size}
+use Rattle.running_nodes.specs.Stands.{at_least_one, carried_octets, message_size}
 
 one_at_least : (octets : List ℕ) → 0 < at_least_one octets
 one_at_least [] = omega arith

@@ -1,2 +1,0 @@
--- What is passed on of `running_model`, so that the crates above need not list it.
-pub use Rattle.running_nodes.proofs.RunningModel.Sizes
