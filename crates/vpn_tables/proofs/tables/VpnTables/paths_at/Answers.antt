@@ -3,8 +3,6 @@ use Rattle.path_select.specs.NodeModel.Members.{Member}
 use Rattle.path_select.specs.NodeModel.Paths.{Holdings}
 use Rattle.path_select.specs.declared.selection.Path.{Path}
 use Rattle.vpn_holdings.specs.At.{paths_at}
-use Rattle.vpn_tables.proofs.Possible.{put_entry}
-use Rattle.vpn_tables.proofs.UpStays.{up_stays}
 use Rattle.vpn_tables.proofs.tables.VpnTables.paths_at.Goals as goal
 
 pub returns : goal.returns
