@@ -20,11 +20,7 @@ const NEAR: Addr = Addr(0xc000_020b);
 const FAR: Addr = Addr(0xc000_020c);
 
 /// Makes a change.
-pub(crate) fn change(
-    alloc: Global,
-    tables: &mut VpnTables,
-    step: &str,
-) -> Result<(), CaseFault> {
+pub(crate) fn change(alloc: Global, tables: &mut VpnTables, step: &str) -> Result<(), CaseFault> {
     let (word, given) = step.split_once(" ").unwrap_or((step, ""));
     match word {
         "chain" | "network" | "port" | "list" => feed(alloc, tables, word, given),
@@ -43,12 +39,7 @@ pub(crate) fn change(
 }
 
 /// The feed tells an object.
-fn feed(
-    alloc: Global,
-    tables: &mut VpnTables,
-    word: &str,
-    given: &str,
-) -> Result<(), CaseFault> {
+fn feed(alloc: Global, tables: &mut VpnTables, word: &str, given: &str) -> Result<(), CaseFault> {
     match word {
         "chain" => feed_chain(alloc, tables, given),
         "network" => feed_network(alloc, tables, given),
