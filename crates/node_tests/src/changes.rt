@@ -20,15 +20,10 @@ const NEAR: Addr = Addr(0xc000_020b);
 const FAR: Addr = Addr(0xc000_020c);
 
 /// Makes a change.
-pub(crate) fn change(
-    alloc: Global,
-    tables: &mut VpnTables,
-    step: &str,
-) -> Result<(), CaseFault> {
+pub(crate) fn change(alloc: Global, tables: &mut VpnTables, step: &str) -> Result<(), CaseFault> {
     let (word, given) = step.split_once(" ").unwrap_or((step, ""));
     match word {
-        "chain" | "network" | "port" | "list" => feed(alloc, tables, word, given),
-        "drop" => unfeed(tables, given),
+        "chain" | "network" | "port" | "list" | "drop" => feed(alloc, tables, word, given),
         "agent" | "publish" | "withdraw" | "subscribe" => hear(tables, word, given),
         "lead" => lead(alloc, tables, given),
         "unlead" => unlead(alloc, tables, given),
@@ -42,17 +37,13 @@ pub(crate) fn change(
     }
 }
 
-/// The feed tells an object.
-fn feed(
-    alloc: Global,
-    tables: &mut VpnTables,
-    word: &str,
-    given: &str,
-) -> Result<(), CaseFault> {
+/// The feed tells an object, or drops one.
+fn feed(alloc: Global, tables: &mut VpnTables, word: &str, given: &str) -> Result<(), CaseFault> {
     match word {
         "chain" => feed_chain(alloc, tables, given),
         "network" => feed_network(alloc, tables, given),
         "port" => feed_port(tables, address(given)?),
+        "drop" => unfeed(tables, given),
         _ => feed_list(alloc, tables, given),
     }
 }

@@ -7,11 +7,7 @@ use ov_types::{Addr, InstanceId, LowKey, LowValue, NoMemory};
 use vpn_tables::{Route, VpnTables};
 
 /// What is asked of the tables as a whole.
-pub(crate) fn ask_all(
-    tables: &VpnTables,
-    word: &str,
-    out: &mut TextOut,
-) -> Result<(), CaseFault> {
+pub(crate) fn ask_all(tables: &VpnTables, word: &str, out: &mut TextOut) -> Result<(), CaseFault> {
     match word {
         "own" => tell_own(tables, out),
         "known" => tell_known(tables, out),

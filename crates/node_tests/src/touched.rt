@@ -75,11 +75,7 @@ pub(crate) fn tell_touches(
     told(write!(out, "{count}"))
 }
 
-fn touched_by_unlead(
-    alloc: Global,
-    tables: &VpnTables,
-    given: &str,
-) -> Result<usize, CaseFault> {
+fn touched_by_unlead(alloc: Global, tables: &VpnTables, given: &str) -> Result<usize, CaseFault> {
     let (session, key) = led(alloc, given)?;
     let rows = tables.touched_by_route(session, &Delta::Drop(key))?;
     Ok(rows.len())
