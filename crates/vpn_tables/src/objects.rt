@@ -242,10 +242,7 @@ fn makes_rows(object_key: &LowKey) -> bool
 }
 
 /// Applies a change of an object from which no rows follow.
-fn change_other(
-    held: &mut VpnHoldings,
-    delta: Delta<LowKey, LowValue>,
-) -> Result<(), NoMemory>
+fn change_other(held: &mut VpnHoldings, delta: Delta<LowKey, LowValue>) -> Result<(), NoMemory>
     requires fits { PutOf Fits delta }
     requires none { makes_rows (key_of delta) ≡ false }
     ensures ok { OnOk result (held.new ≡ with_low held.old delta) }
