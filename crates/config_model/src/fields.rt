@@ -280,7 +280,7 @@ pub fn optional_list_member<T: FromDocument>(
     }
 }
 
-/// Each of these items, in order.
+/// The items that values write, in order.
 pub fn items_of<T: FromDocument>(
     alloc: Global,
     place: &DocumentPlace<'_>,

@@ -101,7 +101,7 @@ fn is_of_number(alloc: Global, error: &Error) -> bool {
     }
 }
 
-/// The place behind so many octets.
+/// The place behind a number of octets.
 fn place_behind(octets: &[u8], count: usize) -> TextPlace
     requires { count ≤ length octets.now }
     ensures { IsPlaceIn octets.now result }
