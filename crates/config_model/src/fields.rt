@@ -1,5 +1,5 @@
 //! Members of objects and items of lists.
-ghost use Rattle.std.specs.Prelude.{◌≡◌, ◌&&◌, ⊤, [], List, ℕ, Bool, IsTrue, length, map};
+ghost use Rattle.std.specs.Prelude.{◌≡◌, ◌&&◌, List, ℕ, Bool, IsTrue, length, map};
 ghost use Rattle.std.specs.Prelude.{option_map, nat_eq, Result, IfOk, ◌≤◌};
 ghost use Rattle.std.specs.Cmp.Lexicographic.{pointwise};
 ghost use Rattle.std.specs.List.{list_any, list_all};
