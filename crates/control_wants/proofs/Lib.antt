@@ -11,4 +11,4 @@ pub mod Counting
 pub mod Wanting
 pub mod Fitting
 pub mod OneKey
-pub mod Rows
+pub mod RowsMarked

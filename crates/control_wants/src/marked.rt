@@ -12,8 +12,8 @@ ghost use Rattle.control_wants.specs.Marks.{is_of, is_subscribed};
 ghost use Rattle.control_wants.specs.Marked.{AreMarkedItems, HasItsRow, key_in};
 
 use crate::dirty::Dirty;
-use crate::whom::Whom;
 use crate::keyed::wanted_down;
+use crate::whom::Whom;
 use ov_types::{Addr, DownKey, DownValue, Entry, InstanceId, LowKey, NoMemory, Prefix, TableRow};
 use std::alloc::Global;
 use vpn_tables::VpnTables;

@@ -9,8 +9,8 @@ ghost use Rattle.vpn_tables.specs.Views.{peer_of};
 ghost use Rattle.control_wants.specs.Wanted.{AreRoutes, AreRoutesWanted, IsSentToPeer};
 
 use crate::dirty::Dirty;
-use crate::route_sends::tell_routes;
 use crate::keyed::wanted_route;
+use crate::route_sends::tell_routes;
 use crate::wants::wanted_by_peers;
 use ov_sync::{Delta, SyncOut};
 use ov_types::{NoMemory, VpnKey, VpnRoute};

@@ -14,7 +14,7 @@ use Rattle.machine_laws.specs.MachineModel.Steps.{without_breaks}
 use Rattle.machine_laws.proofs.MachineModel.NetworkFact.{each_map}
 use Rattle.machine_laws.proofs.MachineModel.Start.{start_each}
 use Rattle.machine_laws.proofs.EachFact.{Keeps, after_keeps}
-use Rattle.running_nodes.proofs.ConfigNode.Law.{low_fits}
+use Rattle.running_nodes.proofs.ConfigNodeBelow.Law.{low_fits}
 use Rattle.machine_laws.specs.Headline.{IsOfForm, IsWritten}
 use Rattle.running_nodes.specs.Stands.{message_size}
 use Rattle.running_nodes.specs.Telling.{CanBeHeard, CanSend}

@@ -1,6 +1,6 @@
 pub mod Sizes
 pub mod ControlNodeBelow
-pub mod ConfigNode
+pub mod ConfigNodeBelow
 pub mod ControlWants
 pub mod AgentTables
 pub mod MachineModel

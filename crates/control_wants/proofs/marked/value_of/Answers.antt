@@ -4,7 +4,7 @@ use Rattle.vpn_tables.specs.NodeModel.Keys.{of_down}
 use Rattle.control_wants.specs.ControlChangeLaws.Here.{wanted_on}
 use Rattle.control_wants.specs.Marked.{key_in}
 use Rattle.control_wants.specs.declared.marked.ItemKey.{ItemKey}
-use Rattle.control_wants.proofs.Rows.{row_told}
+use Rattle.control_wants.proofs.RowsMarked.{row_told}
 use Rattle.control_wants.proofs.marked.value_of.Goals as goal
 
 pub returns-in-Row : goal.returns-in-Row
