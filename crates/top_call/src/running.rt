@@ -40,7 +40,7 @@ struct Schedule {
 }
 
 /// What `run` takes from a value.
-#[tactic(auto, unfolding(crate::specs::Answers::run_value))]
+#[tactic(auto, unfolding(crate::specs::RunAnswers::run_value))]
 fn schedule_taken(alloc: Global, value: &Value) -> Result<Schedule, Unfit>
     ensures fit { IfOk result (λ s. run_value (view value.now) ≡ answer_good (run_text s.valid s.events)) }
     ensures read { IfOk result (λ s. run_at [] (view value.now) ≡ Ok (input_of s.valid s.events)) }
@@ -58,7 +58,7 @@ fn schedule_taken(alloc: Global, value: &Value) -> Result<Schedule, Unfit>
 }
 
 /// What `run` takes from an input.
-#[tactic(auto, unfolding(crate::specs::Answers::run_answer))]
+#[tactic(auto, unfolding(crate::specs::RunAnswers::run_answer))]
 fn schedule_asked(alloc: Global, octets: &[u8]) -> Result<Schedule, Unfit>
     ensures fit { IfOk result (λ s. run_answer octets.now ≡ answer_good (run_text s.valid s.events)) }
     ensures read { IfOk result (λ s. AreReadAs octets.now (input_of s.valid s.events)) }
