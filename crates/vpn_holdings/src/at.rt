@@ -108,7 +108,7 @@ impl VpnHoldings {
 
     /// The route that leads a subnet of a side of the instance's use on into the instance, where there is one. It takes
     /// no memory.
-    pub(crate) fn led_at(&self, i: InstanceId, prefix: &Prefix, right: bool) -> Option<Route>
+    pub fn led_at(&self, i: InstanceId, prefix: &Prefix, right: bool) -> Option<Route>
         ensures { cons_option (option_map path_of result) [] ≡ led_at self.now i prefix.now right }
     {
         let Some(UseHop { use_no, place }) = hop_of(i) else {

@@ -1,0 +1,44 @@
+-- What follows of an instance and a prefix, as sessions are told it, and what a change changes of that.
+use Rattle.std.specs.Prelude.{◌≡◌, ◌≢◌, ◌×◌, List, [], true, false}
+use Rattle.std.specs.declared.option.Option.{Option}
+use Rattle.std.specs.List.{cons_option}
+use Rattle.std.specs.Option.{option_map}
+use Rattle.ov_types.specs.Prefix.{Block}
+use Rattle.ov_types.specs.declared.numbers.InstanceId.{InstanceId}
+use Rattle.node_model.specs.Members.{Member}
+use Rattle.node_model.specs.Paths.{Holdings, Path}
+use Rattle.vpn_holdings.specs.At.{led_at, selected_at}
+use Rattle.vpn_holdings.specs.Routes.{path_of}
+use Rattle.vpn_holdings.specs.declared.routes.Route.{Route}
+use Rattle.vpn_tables.specs.declared.changes.Followed.{Followed}
+use Rattle.vpn_tables.specs.declared.changes.RowChange.{RowChange}
+
+-- a route that leads on, as a list of none or one
+abbrev pub led_by : Option Route → List Path
+led_by r = cons_option (option_map path_of r) []
+
+-- the selected path, and the routes that lead the prefix on into the place of a use that the instance is
+pub record IsFollowed (h : Holdings) (i : InstanceId) (q : Block) (f : Followed) : Type 0 where
+  pub path : f.path ≡ selected_at h i q
+  pub led_right : led_by f.led_right ≡ led_at h i q true
+  pub led_left : led_by f.led_left ≡ led_at h i q false
+
+-- something else follows there
+pub record HasMoved (h h' : Holdings) (i : InstanceId) (q : Block) : Type 0 where
+  pub before : Followed
+  pub after : Followed
+  pub was : IsFollowed h i q before
+  pub is : IsFollowed h' i q after
+  pub other : before ≢ after
+
+-- a row change tells what followed, and what follows now, which is something else
+pub record IsRowChange (h h' : Holdings) (c : RowChange) : Type 0 where
+  pub was : IsFollowed h c.instance c.prefix c.before
+  pub is : IsFollowed h' c.instance c.prefix c.after
+  pub other : c.before ≢ c.after
+
+pub record IsListed (cs : List RowChange) (i : InstanceId) (q : Block) : Type 0 where
+  pub change : RowChange
+  pub listed : Member change cs
+  pub instance : change.instance ≡ i
+  pub prefix : change.prefix ≡ q
