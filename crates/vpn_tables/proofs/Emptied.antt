@@ -4,7 +4,7 @@ use Rattle.std.specs.BTreeMap as tree
 use Rattle.std.specs.BTreeMap.{BTreeMap, is_at}
 use Rattle.std.specs.FinMap.{empty}
 use Rattle.std.specs.Map.{lookup}
-use Rattle.std.proofs.Common.{refl, sym, ◌∙◌, ap, subst, List}
+use Rattle.std.proofs.Common.{refl, sym, ◌∙◌, ap, subst, arith, List}
 use Rattle.ov_sync.specs.declared.Delta.TheVariants.{Drop}
 use Rattle.ov_types.specs.declared.objects.LowKey.{LowKey}
 use Rattle.node_model.specs.Paths.{Holdings}
@@ -30,5 +30,14 @@ session_stored stored next h g (suc place) e other are is = less_stored stored n
 pub object_stored : (stored next : BTreeMap RowKey Entry) (h g : Holdings) (k : LowKey) → g ≡ with_low h (Drop k) → AreStored stored h → Renewed stored next g → AreStored next g
 object_stored stored next h g k e are is = less_stored stored next h g (subst (λ (x : Holdings). IsLess x h) (sym e) (object_dropped h k)) are is
 
-pub nothing_are : (next : BTreeMap RowKey Entry) (g : Holdings) → next.entries ≡ [] → g.feed ≡ empty → AreStored next g
-nothing_are next g e f k = ap (λ (es : List (RowKey × Entry)). entry_or (lookup (is_at (row_order k)) es)) e ∙ nothing_follows g f k
+feed_emptied : (h : Holdings) (s : ℕ) → s ≡ 0 → (without h s).feed ≡ empty
+feed_emptied h zero e = refl
+feed_emptied h (suc place) e = absurd (suc≢zero place e)
+  where
+    suc≢zero : (n : ℕ) → suc n ≡ 0 → ⊥
+    suc≢zero n e = omega arith
+
+pub nothing_are : (next : BTreeMap RowKey Entry) (h g : Holdings) (s : ℕ) → g ≡ without h s → s ≡ 0 → next.entries ≡ [] → AreStored next g
+nothing_are next h g s is none e k =
+    ap (λ (es : List (RowKey × Entry)). entry_or (lookup (is_at (row_order k)) es)) e
+    ∙ nothing_follows g (ap (λ (h : Holdings). h.feed) is ∙ feed_emptied h s none) k

@@ -10,7 +10,7 @@ use Rattle.node_model.specs.Keys.{Key, Low, Vpn, Row, Publish, Subscribe, key_cm
 use Rattle.node_model.proofs.Images as images
 use Rattle.node_model.proofs.Orders.{key_exact, key_total}
 use Rattle.vpn_tables.specs.Stored.{is_row, row_order}
-use Rattle.vpn_tables.specs.declared.rows.RowKey.{RowKey}
+use Rattle.vpn_tables.specs.declared.stored.RowKey.{RowKey}
 
 abbrev as_key : RowKey → Key
 as_key k = Row k.instance k.prefix

@@ -32,7 +32,6 @@ pub(crate) fn drop_session(held: &mut VpnHoldings, stored: &mut Stored, session:
     ensures held { held.new ≡ without held.old session }
     ensures stored { AreStored stored.new held.new }
 {
-    held.uses_are_short();
     held.drop_session(session);
     if session == 0 {
         stored.clear();

@@ -66,16 +66,16 @@ pub(crate) fn follows(held: &VpnHoldings, key: RowKey) -> Entry
 fn refresh_one<L: Ledger>(
     stored: &mut Stored,
     held: &VpnHoldings,
-    key: RowKey,
+    key: &RowKey,
     steps: &mut Steps<L>,
 )
     ensures entries { (k : RowKeyOf) → tree.get row_order stored.new k
-        ≡ (if is_row k key then option_map (λ _. entry_of held.now k) (tree.get row_order stored.old k)
+        ≡ (if is_row k key.now then option_map (λ _. entry_of held.now k) (tree.get row_order stored.old k)
         else tree.get row_order stored.old k) }
     ensures steps { steps.new ≤ steps.old + 1 }
 {
-    let entry = follow(held, key, steps);
-    write(stored, key, entry);
+    let entry = follow(held, *key, steps);
+    write(stored, *key, entry);
 }
 
 fn refresh_each<L: Ledger>(
@@ -90,7 +90,7 @@ fn refresh_each<L: Ledger>(
     ensures steps { steps.new ≤ steps.old + length keys.now }
 {
     for key in keys {
-        refresh_one(stored, held, *key, steps);
+        refresh_one(stored, held, key, steps);
     }
 }
 

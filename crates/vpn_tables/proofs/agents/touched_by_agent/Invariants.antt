@@ -7,5 +7,5 @@ use Rattle.vpn_tables.proofs.agents.touched_by_agent.Given as goal
 
 abbrev pub invariant-loop-key : goal.invariant-loop-key
 invariant-loop-key l =
-    l.rows.items ++ flat_map (λ k. rows_by_key l.held (targets_by_publication l.held l.session (Drop k)) k) (drop l.key-index l.keys.items)
-    ≡ flat_map (λ k. rows_by_key l.held (targets_by_publication l.held l.session (Drop k)) k) l.keys.items
+    l.rows.items ++ flat_map (λ k. rows_by_key l.held (targets_by_publication l.held l.session (Drop k)) k) (drop l.key-index l.key-items)
+    ≡ flat_map (λ k. rows_by_key l.held (targets_by_publication l.held l.session (Drop k)) k) l.key-items

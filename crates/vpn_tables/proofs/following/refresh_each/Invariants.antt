@@ -8,7 +8,7 @@ use Rattle.vpn_tables.specs.declared.stored.RowKey.{RowKey}
 use Rattle.vpn_tables.proofs.following.refresh_each.Given as goal
 
 abbrev pub invariant-loop-key : goal.invariant-loop-key
-invariant-loop-key l = record {
+invariant-loop-key g l = record {
   entries : (k : RowKey) → (if list_any (is_row k) (drop l.key-index l.keys) then option_map (λ _. entry_of l.held k) (tree.get row_order l.stored k) else tree.get row_order l.stored k)
       ≡ (if list_any (is_row k) l.keys then option_map (λ _. entry_of l.held k) (tree.get row_order l.fn.stored k) else tree.get row_order l.fn.stored k);
   steps : l.steps + length (drop l.key-index l.keys) ≤ l.fn.steps + length l.keys;

@@ -6,5 +6,5 @@ use Rattle.vpn_tables.proofs.objects.own_rows.Given as goal
 
 abbrev pub invariant-loop-instance : goal.invariant-loop-instance
 invariant-loop-instance l =
-    l.rows.items ++ flat_map (λ (i : InstanceId). map (λ (p : Block). (i, p)) l.prefixes.items) (drop l.instance-index l.instances.items)
-    ≡ flat_map (λ (i : InstanceId). map (λ (p : Block). (i, p)) l.prefixes.items) l.instances.items
+    l.rows.items ++ flat_map (λ (i : InstanceId). map (λ (p : Block). (i, p)) l.prefixes.items) (drop l.instance-index l.instance-items)
+    ≡ flat_map (λ (i : InstanceId). map (λ (p : Block). (i, p)) l.prefixes.items) l.instance-items

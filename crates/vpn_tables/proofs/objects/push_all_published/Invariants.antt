@@ -5,5 +5,5 @@ use Rattle.vpn_tables.proofs.objects.push_all_published.Given as goal
 
 abbrev pub invariant-loop-told : goal.invariant-loop-told
 invariant-loop-told l =
-    l.rows.items ++ flat_map (rows_published l.held l.of) (drop l.told-index l.keys.items)
-    ≡ l.fn.rows.items ++ flat_map (rows_published l.held l.of) l.keys.items
+    l.rows.items ++ flat_map (rows_published l.held l.of) (drop l.told-index l.told-items)
+    ≡ l.fn.rows.items ++ flat_map (rows_published l.held l.of) l.told-items
