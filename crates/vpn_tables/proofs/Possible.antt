@@ -168,8 +168,8 @@ module _ (h : Holdings) (short : AreShort h.feed) (k : LowKey) (i : InstanceId) 
               of_side s parts.0 is parts.1.0 (subst (λ (x : Block). Member x (subnets s)) (sym (prefix_same q f.0 f.2)) f.1)
           at_subnet false c listed e = absurd (true≢false (sym e))
 
-          at_place : (t : Bool) → cond t (cond (list_any (same_prefix q) (subnets s)) _ false) false ≡ true → Here
-          at_place true e = at_subnet (list_any (same_prefix q) (subnets s)) _ refl e
+          at_place : (t : Bool) → cond t (cond (list_any (same_prefix q) (subnets s)) (is_up h s q (distance s (place_of i))) false) false ≡ true → Here
+          at_place true e = at_subnet (list_any (same_prefix q) (subnets s)) (is_up h s q (distance s (place_of i))) refl e
           at_place false e = absurd (true≢false (sym e))
 
       at_hop : (t : Bool) → is_hop i ≡ t → cond t (is_up_on h (place_of i) q (side_at h.feed (use_of i) b)) false ≡ true → Here

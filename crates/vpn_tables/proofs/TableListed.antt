@@ -88,17 +88,17 @@ over_rows i k (f ∷ es) e h =
       | false ↦ λ _. over_rows i k es e h.1
     ] refl
 
+ascends_row : (f : Kept) (rest : List (Block × TableRow)) (o : Option Path) → Over block_cmp f.0.prefix rest → Ascends block_cmp rest → Ascends block_cmp (cons_option (shown_in f o) rest)
+ascends_row f rest (Some p) over h = (over, h)
+ascends_row f rest None over h = h
+
 ascends_rows : (i : InstanceId) (es : List Kept) → Ascends row_order es → Ascends block_cmp (listed i es)
 ascends_rows i [] h = tt
 ascends_rows i (e ∷ es) h =
     elim (is_of i e) as (λ b. is_of i e ≡ b → Ascends block_cmp (cons_option (cond b (shown_in e e.1.path) None) (listed i es))) [
-      | true ↦ λ is. by_path e.1.path (over_rows i e.0 es (same_instance i e.0 is) h.0)
+      | true ↦ λ is. ascends_row e (listed i es) e.1.path (over_rows i e.0 es (same_instance i e.0 is) h.0) (ascends_rows i es h.1)
       | false ↦ λ _. ascends_rows i es h.1
     ] refl
-  where
-    by_path : (o : Option Path) → Over block_cmp e.0.prefix (listed i es) → Ascends block_cmp (cons_option (shown_in e o) (listed i es))
-    by_path (Some p) over = (over, ascends_rows i es h.1)
-    by_path None over = ascends_rows i es h.1
 
 -- ---- what is found
 over_none : (q : Block) (es : List (Block × TableRow)) → Over block_cmp q es → find block_cmp q es ≡ None
@@ -114,14 +114,14 @@ found i q (e ∷ es) h =
     elim (is_of i e) as (λ b. is_of i e ≡ b → find block_cmp q (cons_option (cond b (shown_in e e.1.path) None) (listed i es)) ≡ looked i q (e ∷ es)) [
       | true ↦ λ is.
           let same = same_instance i e.0 is in
-          at_prefix same (eq_by_cmp block_cmp q e.0.prefix) refl
+          at_prefix (found i q es h.1) same (eq_by_cmp block_cmp q e.0.prefix) refl
           ∙ ap (λ b. option_map shown (entry_or (cond b (Some e.1) (lookup (is_at (row_order (at_key i q))) es))).path) (sym (tied_rows i q e.0 (sym same)))
       | false ↦ λ is. found i q es h.1 ∙ ap (λ b. option_map shown (entry_or (cond b (Some e.1) (lookup (is_at (row_order (at_key i q))) es))).path) (sym (not_tied i q e.0 is))
     ] refl
   where
-    at_prefix : e.0.instance ≡ i → (t : Bool) → eq_by_cmp block_cmp q e.0.prefix ≡ t
+    at_prefix : find block_cmp q (listed i es) ≡ looked i q es → e.0.instance ≡ i → (t : Bool) → eq_by_cmp block_cmp q e.0.prefix ≡ t
         → find block_cmp q (cons_option (shown_in e e.1.path) (listed i es)) ≡ option_map shown (entry_or (cond t (Some e.1) (lookup (is_at (row_order (at_key i q))) es))).path
-    at_prefix same true t = there e.1.path
+    at_prefix later same true t = there e.1.path
       where
         is : q ≡ e.0.prefix
         is = prefix_exact q e.0.prefix ((Equal-is (block_cmp q e.0.prefix)).0 t)
@@ -129,7 +129,7 @@ found i q (e ∷ es) h =
         there : (o : Option Path) → find block_cmp q (cons_option (shown_in e o) (listed i es)) ≡ option_map shown o
         there (Some p) = ap (λ b. cond b (Some (shown p)) (find block_cmp q (listed i es))) t
         there None = over_none q (listed i es) (subst (λ (x : Block). Over block_cmp x (listed i es)) (sym is) (over_rows i e.0 es same h.0))
-    at_prefix same false t = there e.1.path ∙ found i q es h.1
+    at_prefix later same false t = there e.1.path ∙ later
       where
         there : (o : Option Path) → find block_cmp q (cons_option (shown_in e o) (listed i es)) ≡ find block_cmp q (listed i es)
         there (Some p) = ap (λ b. cond b (Some (shown p)) (find block_cmp q (listed i es))) t
