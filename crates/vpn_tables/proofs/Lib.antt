@@ -4,6 +4,8 @@ mod Places
 mod Keeping
 mod UpStays
 mod Touching
+mod LedStays
+mod Following
 mod Same
 mod Less
 mod Alike

@@ -1,10 +1,12 @@
 -- What follows of an instance and a prefix, as sessions are told it, and what a change changes of that.
-use Rattle.std.specs.Prelude.{◌≡◌, ◌≢◌, ◌×◌, List, [], true, false}
+use Rattle.std.specs.Prelude.{◌≡◌, ◌≢◌, List, [], ◌∷◌, true, false}
 use Rattle.std.specs.declared.option.Option.{Option}
+use Rattle.std.specs.declared.option.Option.TheVariants.{Some, None}
 use Rattle.std.specs.List.{cons_option}
 use Rattle.std.specs.Option.{option_map}
 use Rattle.ov_types.specs.Prefix.{Block}
 use Rattle.ov_types.specs.declared.numbers.InstanceId.{InstanceId}
+use Rattle.ov_types.specs.declared.targets.Target.{Target}
 use Rattle.node_model.specs.Members.{Member}
 use Rattle.node_model.specs.Paths.{Holdings, Path}
 use Rattle.vpn_holdings.specs.At.{led_at, selected_at}
@@ -42,3 +44,37 @@ pub record IsListed (cs : List RowChange) (i : InstanceId) (q : Block) : Type 0 
   pub listed : Member change cs
   pub instance : change.instance ≡ i
   pub prefix : change.prefix ≡ q
+
+-- ---- the same by what is computed of it
+-- a path with one target, as a route that leads on
+abbrev pub route_to : Path → List Target → Option Route
+route_to p [] = None
+route_to p (t ∷ ts) = Some (record {
+  prefix = p.prefix;
+  path = record { session = p.session; rd = p.rd; next_hop = p.next_hop; label = p.label };
+  target = t;
+})
+
+abbrev pub first_route : List Path → Option Route
+first_route [] = None
+first_route (p ∷ ps) = route_to p p.targets
+
+abbrev pub followed_at : Holdings → InstanceId → Block → Followed
+followed_at h i q = record {
+  path = selected_at h i q;
+  led_right = first_route (led_at h i q true);
+  led_left = first_route (led_at h i q false);
+}
+
+-- a row at which the same follows after as before
+abbrev pub unchanged_at : Holdings → InstanceId × Block → RowChange
+unchanged_at h e = record { instance = e.0; prefix = e.1; before = followed_at h e.0 e.1; after = followed_at h e.0 e.1 }
+
+-- a row change, with what follows there now
+abbrev pub followed_again : Holdings → RowChange → RowChange
+followed_again h c = record { instance = c.instance; prefix = c.prefix; before = c.before; after = followed_at h c.instance c.prefix }
+
+-- of some row changes those after which something else follows
+pub record AreOther (all kept : List RowChange) : Type 0 where
+  pub each : (c : RowChange) → Member c kept → Member c all × (c.before ≢ c.after)
+  pub every : (c : RowChange) → Member c all → c.before ≢ c.after → Member c kept

@@ -60,6 +60,13 @@ impl VpnTables {
         self.held.uses_are_short();
     }
 
+    /// Held uses have small numbers, and are short.
+    pub fn uses_are_in_range(&self)
+        ensures { UsesAreInRange self.now.feed }
+    {
+        self.held.uses_are_in_range();
+    }
+
     /// Whether an instance is a held network's, or a place of a held use. It takes no memory.
     pub fn is_known(&self, i: InstanceId) -> bool
         ensures { result ≡ is_known self.now.feed i }

@@ -1,18 +1,21 @@
 //! Changes that answer what they change: exactly the rows at which something else follows then.
-ghost use Rattle.std.specs.Prelude.{◌≡◌, ◌≤◌, ◌+◌, IfOk, OnErr, OnOk};
+ghost use Rattle.std.specs.Prelude.{◌≡◌, ◌≤◌, ◌+◌, map, IfOk, IfSome, OnErr, OnOk};
 ghost use Rattle.std.specs.List.{AllByRecursion};
+ghost use Rattle.ov_sync.specs.Keyed.{key_of};
 ghost use Rattle.ov_types.specs.Prefix.{Block};
 ghost use Rattle.ov_types.specs.declared.numbers.InstanceId.{InstanceId as InstanceOf};
 ghost use Rattle.vpn_holdings.specs.Changes.{with_publication, with_route};
 ghost use Rattle.vpn_holdings.specs.Moved.{targets_by_publication, targets_by_route};
-ghost use Rattle.vpn_holdings.specs.Touched.{touched};
-ghost use Rattle.vpn_tables.specs.Followed.{HasMoved, IsFollowed, IsListed, IsRowChange};
+ghost use Rattle.vpn_holdings.specs.Touched.{rows_by_key, touched, touched_rows};
+ghost use Rattle.vpn_tables.specs.Followed.{AreOther, HasMoved, IsFollowed, IsListed, IsRowChange};
+ghost use Rattle.vpn_tables.specs.Followed.{followed_again, unchanged_at};
 
 use crate::stored::{entry_at, row_key};
 use crate::tables::VpnTables;
 use ov_sync::Delta;
 use ov_types::{InstanceId, Label, NoMemory, Prefix, UpKey, VpnKey, VpnRoute};
 use path_select::{Path, Steps};
+use std::alloc::Global;
 use std::sync::ledger::Ledger;
 use vpn_holdings::Route;
 
@@ -49,68 +52,125 @@ impl VpnTables {
         }
     }
 
-    /// Applies a change that a peer told on its session, as `set_peer_route_counted` does, and answers what it changed.
+    /// Applies a change that a peer told on its session, as `set_peer_route_counted` does, and answers what it changed:
+    /// nothing is answered where memory is wanting for that alone.
     pub fn change_peer_route<L: Ledger>(
         &mut self,
         session: u16,
         delta: Delta<VpnKey, VpnRoute>,
         steps: &mut Steps<L>,
-    ) -> Result<Vec<RowChange>, NoMemory>
+    ) -> Result<Option<Vec<RowChange>>, NoMemory>
         ensures ok { OnOk result (self.new ≡ with_route self.old session delta) }
         ensures err { OnErr result (self.new ≡ self.old) }
         ensures steps { steps.new ≤ steps.old + touched self.old (targets_by_route self.old session delta) }
-        ensures each { IfOk result (λ changes. AllByRecursion (IsRowChange self.old self.new) changes.items) }
-        ensures every { IfOk result (λ changes. (i : InstanceOf) (q : Block) → HasMoved self.old self.new i q
-            → IsListed changes.items i q) }
+        ensures each { IfOk result (λ changes. IfSome changes (λ rows.
+            AllByRecursion (IsRowChange self.old self.new) rows.items)) }
+        ensures every { IfOk result (λ changes. IfSome changes (λ rows. (i : InstanceOf) (q : Block)
+            → HasMoved self.old self.new i q → IsListed rows.items i q)) }
     {
-        let touched = self.touched_by_route(session, &delta)?;
-        let mut changes = self.unchanged(touched.as_slice())?;
+        self.uses_are_short();
+        let listed = self.rows_by_route(session, &delta);
         self.set_peer_route_counted(session, delta, steps)?;
-        self.keep_changed(&mut changes);
-        Ok(changes)
+        Ok(self.changed_of(listed))
     }
 
-    /// Applies a change that an agent told on its session, as `set_publication_counted` does, and answers what it changed.
+    /// Applies a change that an agent told on its session, as `set_publication_counted` does, and answers what it changed:
+    /// nothing is answered where memory is wanting for that alone.
     pub fn change_publication<L: Ledger>(
         &mut self,
         session: u16,
         delta: Delta<UpKey, Label>,
         steps: &mut Steps<L>,
-    ) -> Result<Vec<RowChange>, NoMemory>
+    ) -> Result<Option<Vec<RowChange>>, NoMemory>
         ensures ok { OnOk result (self.new ≡ with_publication self.old session delta) }
         ensures err { OnErr result (self.new ≡ self.old) }
         ensures steps { steps.new ≤ steps.old + touched self.old (targets_by_publication self.old session delta) }
-        ensures each { IfOk result (λ changes. AllByRecursion (IsRowChange self.old self.new) changes.items) }
-        ensures every { IfOk result (λ changes. (i : InstanceOf) (q : Block) → HasMoved self.old self.new i q
-            → IsListed changes.items i q) }
+        ensures each { IfOk result (λ changes. IfSome changes (λ rows.
+            AllByRecursion (IsRowChange self.old self.new) rows.items)) }
+        ensures every { IfOk result (λ changes. IfSome changes (λ rows. (i : InstanceOf) (q : Block)
+            → HasMoved self.old self.new i q → IsListed rows.items i q)) }
     {
-        let touched = self.touched_by_publication(session, &delta)?;
-        let mut changes = self.unchanged(touched.as_slice())?;
+        self.uses_are_short();
+        let listed = self.rows_by_publication(session, &delta);
         self.set_publication_counted(session, delta, steps)?;
-        self.keep_changed(&mut changes);
-        Ok(changes)
+        Ok(self.changed_of(listed))
     }
 
-    /// Some rows, each with what follows there before a change and as if nothing followed otherwise after it.
-    fn unchanged(&self, rows: &[(InstanceId, Prefix)]) -> Result<Vec<RowChange>, NoMemory> {
-        let mut changes = Vec::new(self.alloc);
-        for (instance, prefix) in rows {
-            let followed = self.followed(*instance, prefix);
-            changes.push(RowChange {
-                instance: *instance,
-                prefix: *prefix,
-                before: followed,
-                after: followed,
-            })?;
-        }
-        Ok(changes)
+    /// The rows that a change of a peer's route touches, with what follows there before it.
+    fn rows_by_route(
+        &self,
+        session: u16,
+        delta: &Delta<VpnKey, VpnRoute>,
+    ) -> Result<Vec<RowChange>, NoMemory>
+        ensures { IfOk result (λ rows. rows.items ≡ map (unchanged_at self.now)
+            (touched_rows self.now (targets_by_route self.now session delta.now) (key_of delta.now).prefix)) }
+    {
+        let touched = self.touched_by_route(session, delta)?;
+        list_unchanged(self.alloc, self, touched.as_slice())
     }
 
-    /// Keeps of some rows those at which something else follows now. It takes no memory.
-    fn keep_changed(&self, changes: &mut Vec<RowChange>) {
-        for change in changes.iter_mut() {
-            change.after = self.followed(change.instance, &change.prefix);
-        }
-        changes.retain(|change| change.before != change.after);
+    /// The rows that a change of what an agent told touches, with what follows there before it.
+    fn rows_by_publication(
+        &self,
+        session: u16,
+        delta: &Delta<UpKey, Label>,
+    ) -> Result<Vec<RowChange>, NoMemory>
+        ensures { IfOk result (λ rows. rows.items ≡ map (unchanged_at self.now)
+            (rows_by_key self.now (targets_by_publication self.now session delta.now) (key_of delta.now))) }
+    {
+        let touched = self.touched_by_publication(session, delta)?;
+        list_unchanged(self.alloc, self, touched.as_slice())
     }
+
+    /// Those of some rows at which something else follows now, where there was memory for the rows. It takes none.
+    fn changed_of(&self, listed: Result<Vec<RowChange>, NoMemory>) -> Option<Vec<RowChange>>
+        ensures { IfOk listed (λ all. IfSome result (λ kept.
+            AreOther (map (followed_again self.now) all.items) kept.items)) }
+    {
+        match listed {
+            Ok(mut changes) => {
+                follow_again(self, &mut changes);
+                keep_other(&mut changes);
+                Some(changes)
+            }
+            Err(NoMemory) => None,
+        }
+    }
+}
+
+/// Some rows, each with what follows there now, as if the same followed after a change.
+fn list_unchanged(
+    alloc: Global,
+    tables: &VpnTables,
+    rows: &[(InstanceId, Prefix)],
+) -> Result<Vec<RowChange>, NoMemory>
+    ensures { IfOk result (λ changes. changes.items ≡ map (unchanged_at tables.now) rows.now) }
+{
+    let mut changes = Vec::new(alloc);
+    for (instance, prefix) in rows {
+        let followed = tables.followed(*instance, prefix);
+        changes.push(RowChange {
+            instance: *instance,
+            prefix: *prefix,
+            before: followed,
+            after: followed,
+        })?;
+    }
+    Ok(changes)
+}
+
+/// Sets of each row what follows there now.
+fn follow_again(tables: &VpnTables, changes: &mut [RowChange])
+    ensures { changes.new ≡ map (followed_again tables.now) changes.old }
+{
+    for change in changes.iter_mut() {
+        change.after = tables.followed(change.instance, &change.prefix);
+    }
+}
+
+/// Keeps the rows at which something else follows.
+fn keep_other(changes: &mut Vec<RowChange>)
+    ensures { AreOther changes.old.items changes.new.items }
+{
+    changes.retain(|change| change.before != change.after);
 }
