@@ -5,7 +5,7 @@ mod Keeping
 mod UpStays
 mod Touching
 mod LedStays
-mod Following
+mod MovedRows
 mod Same
 mod Less
 mod Alike

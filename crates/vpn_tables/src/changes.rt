@@ -1,5 +1,5 @@
 //! Changes that answer what they change: exactly the rows at which something else follows then.
-ghost use Rattle.std.specs.Prelude.{◌≡◌, ◌≤◌, ◌+◌, map, IfOk, IfSome, OnErr, OnOk};
+ghost use Rattle.std.specs.Prelude.{◌≡◌, ◌≤◌, ◌+◌, ◌++◌, ◌∷◌, [], map, IfOk, IfSome, None, OnErr, OnOk};
 ghost use Rattle.std.specs.List.{AllByRecursion};
 ghost use Rattle.ov_sync.specs.Keyed.{key_of};
 ghost use Rattle.ov_types.specs.Prefix.{Block};
@@ -124,8 +124,9 @@ impl VpnTables {
 
     /// Those of some rows at which something else follows now, where there was memory for the rows. It takes none.
     fn changed_of(&self, listed: Result<Vec<RowChange>, NoMemory>) -> Option<Vec<RowChange>>
-        ensures { IfOk listed (λ all. IfSome result (λ kept.
+        ensures other { IfOk listed (λ all. IfSome result (λ kept.
             AreOther (map (followed_again self.now) all.items) kept.items)) }
+        ensures none { OnErr listed (result ≡ None) }
     {
         match listed {
             Ok(mut changes) => {
@@ -138,6 +139,33 @@ impl VpnTables {
     }
 }
 
+/// A row with what follows there now, as if the same followed after a change.
+fn unchanged(tables: &VpnTables, instance: InstanceId, prefix: &Prefix) -> RowChange
+    ensures { result ≡ unchanged_at tables.now (instance, prefix.now) }
+{
+    let before = tables.followed(instance, prefix);
+    let after = before;
+    RowChange {
+        instance,
+        prefix: *prefix,
+        before,
+        after,
+    }
+}
+
+fn push_unchanged(
+    changes: &mut Vec<RowChange>,
+    tables: &VpnTables,
+    instance: InstanceId,
+    prefix: &Prefix,
+) -> Result<(), NoMemory>
+    ensures { OnOk result (changes.new.items
+        ≡ changes.old.items ++ unchanged_at tables.now (instance, prefix.now) ∷ []) }
+{
+    changes.push(unchanged(tables, instance, prefix))?;
+    Ok(())
+}
+
 /// Some rows, each with what follows there now, as if the same followed after a change.
 fn list_unchanged(
     alloc: Global,
@@ -148,13 +176,7 @@ fn list_unchanged(
 {
     let mut changes = Vec::new(alloc);
     for (instance, prefix) in rows {
-        let followed = tables.followed(*instance, prefix);
-        changes.push(RowChange {
-            instance: *instance,
-            prefix: *prefix,
-            before: followed,
-            after: followed,
-        })?;
+        push_unchanged(&mut changes, tables, *instance, prefix)?;
     }
     Ok(changes)
 }

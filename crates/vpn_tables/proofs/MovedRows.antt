@@ -1,7 +1,9 @@
 -- What follows of an instance and a prefix is one thing, and stays where a change does not touch it.
-use Rattle.std.specs.Prelude.{◌≡◌, ◌≢◌, ℕ, zero, suc, List, [], ◌∷◌, map, Bool, true, false, cond, nat_le}
+use Rattle.std.specs.Prelude.{◌≡◌, ◌≢◌, IfOk, IfSome, OnErr, ℕ, zero, suc, List, [], ◌∷◌, map, Bool, true, false, cond, nat_le}
 use Rattle.std.specs.declared.option.Option.{Option}
 use Rattle.std.specs.declared.option.Option.TheVariants.{Some, None}
+use Rattle.std.specs.declared.result.Result.{Result}
+use Rattle.std.specs.declared.result.Result.TheVariants.{Ok, Err}
 use Rattle.std.specs.List.{AllByRecursion, list_any}
 use Rattle.std.proofs.Common.{refl, sym, ◌∙◌, ap, subst}
 use Rattle.ov_sync.specs.declared.Delta.{Delta}
@@ -19,7 +21,7 @@ use Rattle.node_model.specs.Paths.{Holdings, Path}
 use Rattle.node_model.specs.Reaching.{AreShort, Side, circuit_at, hop_at, is_up, publisher, subnets, towards}
 use Rattle.node_model.specs.Tables.{same_prefix}
 use Rattle.node_model.specs.Uses.{is_hop, place_of, use_of}
-use Rattle.node_model.proofs.Members.{from_any, from_map, in_map}
+use Rattle.node_model.proofs.Members.{from_any, from_map, in_map, none_some}
 use Rattle.vpn_holdings.specs.Answers.{distance, side_at}
 use Rattle.vpn_holdings.specs.At.{led_at, led_from, led_on_side, selected_at}
 use Rattle.vpn_holdings.specs.Changes.{with_publication, with_route}
@@ -154,7 +156,29 @@ module _ (h g : Holdings) (rows : List (InstanceId × Block)) (kept : List RowCh
           | false ↦ λ t. absurd (other_there (stays i q (not_listed (map key_at rows) rows (key_at (i, q)) refl t)))
         ] refl
 
--- the rows are those that were touched
-pub of_touched : (h g : Holdings) (rows touched : List (InstanceId × Block)) (all kept : List RowChange) → touched ≡ rows → all ≡ map (unchanged_at h) touched → AreOther (map (followed_again g) all) kept
-    → AreOther (map (followed_again g) (map (unchanged_at h) rows)) kept
-of_touched h g rows touched all kept e f other = subst (λ (all : List RowChange). AreOther (map (followed_again g) all) kept) (f ∙ ap (map (unchanged_at h)) e) other
+-- ---- where there was memory for the rows
+abbrev Stays : Holdings → Holdings → List (InstanceId × Block) → Type 0
+Stays h g rows = (i : InstanceId) (q : Block) → (Member (at_row i q) rows → ⊥) → followed_at h i q ≡ followed_at g i q
+
+of_rows : (g : Holdings) (all rows kept : List RowChange) → all ≡ rows → AreOther (map (followed_again g) all) kept → AreOther (map (followed_again g) rows) kept
+of_rows g all rows kept e other = subst (λ (l : List RowChange). AreOther (map (followed_again g) l) kept) e other
+
+module _ {V E : Type 0} (items : V → List RowChange) (h g : Holdings) (rows : List (InstanceId × Block)) where
+  abbrev AreRows : Result V E → Type 0
+  AreRows listed = IfOk listed (λ all. items all ≡ map (unchanged_at h) rows)
+
+  abbrev AreKept : Result V E → Option V → Type 0
+  AreKept listed result = IfOk listed (λ all. IfSome result (λ kept. AreOther (map (followed_again g) (items all)) (items kept)))
+
+  pub each_told : (listed : Result V E) (result : Option V) → AreRows listed → AreKept listed result → OnErr listed (result ≡ None) → IfSome result (λ kept. AllByRecursion (IsRowChange h g) (items kept))
+  each_told (Ok all) None e other none = tt
+  each_told (Err x) None e other none = tt
+  each_told (Ok all) (Some kept) e other none = kept_changes h g rows (items kept) (of_rows g (items all) (map (unchanged_at h) rows) (items kept) e other)
+  each_told (Err x) (Some kept) e other none = absurd (none_some kept (sym none))
+
+  pub every_told : (listed : Result V E) (result : Option V) → AreRows listed → AreKept listed result → OnErr listed (result ≡ None) → Stays h g rows
+      → IfSome result (λ kept. (i : InstanceId) (q : Block) → HasMoved h g i q → IsListed (items kept) i q)
+  every_told (Ok all) None e other none stays = tt
+  every_told (Err x) None e other none stays = tt
+  every_told (Ok all) (Some kept) e other none stays = moved_listed h g rows (items kept) (of_rows g (items all) (map (unchanged_at h) rows) (items kept) e other) stays
+  every_told (Err x) (Some kept) e other none stays = absurd (none_some kept (sym none))
