@@ -1,10 +1,12 @@
 -- What follows of an instance and a prefix is one thing, and stays where a change does not touch it.
-use Rattle.std.specs.Prelude.{◌≡◌, ◌≢◌, IfOk, IfSome, OnErr, ℕ, zero, suc, List, [], ◌∷◌, map, Bool, true, false, cond, nat_le}
+use Rattle.std.specs.Prelude.{◌≡◌, ◌≢◌, ◌==◌, ◌&&◌, not, IfOk, IfSome, OnErr, ℕ, zero, suc, List, [], ◌∷◌, map, Bool, true, false, cond, nat_le}
 use Rattle.std.specs.declared.option.Option.{Option}
 use Rattle.std.specs.declared.option.Option.TheVariants.{Some, None}
 use Rattle.std.specs.declared.result.Result.{Result}
 use Rattle.std.specs.declared.result.Result.TheVariants.{Ok, Err}
-use Rattle.std.specs.List.{AllByRecursion, list_any}
+use Rattle.std.specs.Option.{option_eq}
+use Rattle.std.specs.List.{AllByRecursion, filter, list_any}
+use Rattle.std.proofs.lemmas.Bool.{and_parts, eq-eqb, eqb-true, true≢false}
 use Rattle.std.proofs.Common.{refl, sym, ◌∙◌, ap, subst}
 use Rattle.ov_sync.specs.declared.Delta.{Delta}
 use Rattle.ov_sync.specs.Keyed.{key_of}
@@ -21,18 +23,23 @@ use Rattle.node_model.specs.Paths.{Holdings, Path}
 use Rattle.node_model.specs.Reaching.{AreShort, Side, circuit_at, hop_at, is_up, publisher, subnets, towards}
 use Rattle.node_model.specs.Tables.{same_prefix}
 use Rattle.node_model.specs.Uses.{is_hop, place_of, use_of}
-use Rattle.node_model.proofs.Members.{from_any, from_map, in_map, none_some}
+use Rattle.node_model.proofs.Members.{from_any, from_filter, from_map, in_filter, in_map, none_some}
+use Rattle.node_model.proofs.Orders.{prefix_same, same_prefix-from}
+use Rattle.path_select.specs.contracts.selection.PathPartialEq.TheImpl as path_eq
+use Rattle.path_select.specs.declared.selection.Path.{Path as Selected}
 use Rattle.vpn_holdings.specs.Answers.{distance, side_at}
 use Rattle.vpn_holdings.specs.At.{led_at, led_from, led_on_side, selected_at}
 use Rattle.vpn_holdings.specs.Changes.{with_publication, with_route}
 use Rattle.vpn_holdings.specs.Moved.{moved_by_publication, moved_by_route, place_by_publication, targets_by_publication, targets_by_route}
 use Rattle.vpn_holdings.specs.Touched.{rows_by_key, touched_rows}
+use Rattle.vpn_holdings.specs.contracts.routes.RoutePartialEq.TheImpl as route_eq
 use Rattle.vpn_holdings.specs.declared.routes.Route.{Route}
 use Rattle.control_change_laws.proofs.Filtering.{all_from}
 use Rattle.control_change_laws.proofs.Touching.{covers_publication, no_rows, publication_moves, route_moves, subscription_targets}
 use Rattle.control_change_laws.proofs.Wanted.{at_row}
 use Rattle.vpn_tables.specs.Followed.{AreOther, HasMoved, IsFollowed, IsListed, IsRowChange, first_route, followed_again, followed_at, led_by, unchanged_at}
 use Rattle.vpn_tables.specs.Stored.{is_row, key_at}
+use Rattle.vpn_tables.specs.contracts.changes.FollowedPartialEq.TheImpl as followed_eq
 use Rattle.vpn_tables.specs.declared.changes.Followed.{Followed}
 use Rattle.vpn_tables.specs.declared.changes.RowChange.{RowChange}
 use Rattle.vpn_tables.specs.declared.stored.Entry.{Entry}
@@ -182,3 +189,97 @@ module _ {V E : Type 0} (items : V → List RowChange) (h g : Holdings) (rows : 
   every_told (Err x) None e other none stays = tt
   every_told (Ok all) (Some kept) e other none stays = moved_listed h g rows (items kept) (of_rows g (items all) (map (unchanged_at h) rows) (items kept) e other) stays
   every_told (Err x) (Some kept) e other none stays = absurd (none_some kept (sym none))
+
+-- ---- the comparison tells apart
+itself : (n : ℕ) → (n == n) ≡ true
+itself n = eq-eqb n n refl
+
+path_is : (x y : Selected) → path_eq.ghosts.eq x y ≡ true → x ≡ y
+path_is x y e =
+    let a = and_parts (x.session == y.session) ((x.rd.0 == y.rd.0) && ((x.next_hop.0 == y.next_hop.0) && (x.label.0 == y.label.0))) e in
+    let b = and_parts (x.rd.0 == y.rd.0) ((x.next_hop.0 == y.next_hop.0) && (x.label.0 == y.label.0)) a.1 in
+    let c = and_parts (x.next_hop.0 == y.next_hop.0) (x.label.0 == y.label.0) b.1 in
+    λ i. record {
+      session = eqb-true x.session y.session a.0 i;
+      rd = record { 0 = eqb-true x.rd.0 y.rd.0 b.0 i };
+      next_hop = record { 0 = eqb-true x.next_hop.0 y.next_hop.0 c.0 i };
+      label = record { 0 = eqb-true x.label.0 y.label.0 c.1 i };
+    }
+
+path_itself : (x : Selected) → path_eq.ghosts.eq x x ≡ true
+path_itself x = λ i. itself x.session i && (itself x.rd.0 i && (itself x.next_hop.0 i && itself x.label.0 i))
+
+route_is : (x y : Route) → route_eq.ghosts.eq x y ≡ true → x ≡ y
+route_is x y e =
+    let a = and_parts (same_prefix x.prefix y.prefix) (path_eq.ghosts.eq x.path y.path && (x.target.0 == y.target.0)) e in
+    let b = and_parts (path_eq.ghosts.eq x.path y.path) (x.target.0 == y.target.0) a.1 in
+    λ i. record {
+      prefix = prefix_same x.prefix y.prefix a.0 i;
+      path = path_is x.path y.path b.0 i;
+      target = record { 0 = eqb-true x.target.0 y.target.0 b.1 i };
+    }
+
+route_itself : (x : Route) → route_eq.ghosts.eq x x ≡ true
+route_itself x = λ i. same_prefix-from x.prefix x.prefix refl i && (path_itself x.path i && itself x.target.0 i)
+
+module _ {T : Type 0} (eq : T → T → Bool) (is : (x y : T) → eq x y ≡ true → x ≡ y) (own : (x : T) → eq x x ≡ true) where
+  option_is : (a b : Option T) → option_eq eq a b ≡ true → a ≡ b
+  option_is None None e = refl
+  option_is None (Some y) e = absurd (true≢false (sym e))
+  option_is (Some x) None e = absurd (true≢false (sym e))
+  option_is (Some x) (Some y) e = ap Some (is x y e)
+
+  option_itself : (a : Option T) → option_eq eq a a ≡ true
+  option_itself None = refl
+  option_itself (Some x) = own x
+
+-- something is there, or nothing, and each is the other or not
+abbrev pub same_path : Option Selected → Option Selected → Bool
+same_path = option_eq path_eq.ghosts.eq
+
+abbrev pub same_route : Option Route → Option Route → Bool
+same_route = option_eq route_eq.ghosts.eq
+
+pub same_path_is : (a b : Option Selected) → same_path a b ≡ true → a ≡ b
+same_path_is = option_is path_eq.ghosts.eq path_is path_itself
+
+pub same_path_itself : (a : Option Selected) → same_path a a ≡ true
+same_path_itself = option_itself path_eq.ghosts.eq path_is path_itself
+
+pub same_route_is : (a b : Option Route) → same_route a b ≡ true → a ≡ b
+same_route_is = option_is route_eq.ghosts.eq route_is route_itself
+
+pub same_route_itself : (a : Option Route) → same_route a a ≡ true
+same_route_itself = option_itself route_eq.ghosts.eq route_is route_itself
+
+eq_is : (a b : Followed) → followed_eq.ghosts.eq a b ≡ true → a ≡ b
+eq_is a b e =
+    let x = and_parts (same_path a.path b.path) (same_route a.led_right b.led_right && same_route a.led_left b.led_left) e in
+    let y = and_parts (same_route a.led_right b.led_right) (same_route a.led_left b.led_left) x.1 in
+    λ i. record {
+      path = same_path_is a.path b.path x.0 i;
+      led_right = same_route_is a.led_right b.led_right y.0 i;
+      led_left = same_route_is a.led_left b.led_left y.1 i;
+    }
+
+eq_itself : (a : Followed) → followed_eq.ghosts.eq a a ≡ true
+eq_itself a = λ i. same_path_itself a.path i && (same_route_itself a.led_right i && same_route_itself a.led_left i)
+
+abbrev pub is_other : RowChange → Bool
+is_other c = not (followed_eq.ghosts.eq c.before c.after)
+
+not_same : (c : RowChange) → is_other c ≡ true → c.before ≢ c.after
+not_same c t e = true≢false (sym t ∙ ap not (ap (λ (f : Followed). followed_eq.ghosts.eq f c.after) e ∙ eq_itself c.after))
+
+other_from : (c : RowChange) → c.before ≢ c.after → is_other c ≡ true
+other_from c differ =
+    elim (followed_eq.ghosts.eq c.before c.after) as (λ b. followed_eq.ghosts.eq c.before c.after ≡ b → not b ≡ true) [
+      | true ↦ λ e. absurd (differ (eq_is c.before c.after e))
+      | false ↦ λ _. refl
+    ] refl
+
+pub kept_other : (all kept : List RowChange) → kept ≡ filter is_other all → AreOther all kept
+kept_other all kept e = record {
+  each = λ c m. let f = from_filter is_other c all (subst (Member c) e m) in (f.0, not_same c f.1);
+  every = λ c m differ. subst (Member c) (sym e) (in_filter is_other c all m (other_from c differ));
+}

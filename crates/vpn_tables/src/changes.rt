@@ -153,6 +153,26 @@ fn unchanged(tables: &VpnTables, instance: InstanceId, prefix: &Prefix) -> RowCh
     }
 }
 
+/// Adds a row.
+fn push_change(changes: &mut Vec<RowChange>, change: &RowChange) -> Result<(), NoMemory>
+    ensures { OnOk result (changes.new.items ≡ changes.old.items ++ change.now ∷ []) }
+{
+    let path = change.before.path;
+    let led_right = change.before.led_right;
+    let led_left = change.before.led_left;
+    changes.push(RowChange {
+        instance: change.instance,
+        prefix: change.prefix,
+        before: Followed {
+            path,
+            led_right,
+            led_left,
+        },
+        after: change.after,
+    })?;
+    Ok(())
+}
+
 fn push_unchanged(
     changes: &mut Vec<RowChange>,
     tables: &VpnTables,
@@ -162,8 +182,7 @@ fn push_unchanged(
     ensures { OnOk result (changes.new.items
         ≡ changes.old.items ++ unchanged_at tables.now (instance, prefix.now) ∷ []) }
 {
-    changes.push(unchanged(tables, instance, prefix))?;
-    Ok(())
+    push_change(changes, &unchanged(tables, instance, prefix))
 }
 
 /// Some rows, each with what follows there now, as if the same followed after a change.
