@@ -1,5 +1,5 @@
 -- What is stored stays what follows, where what may differ is made anew.
-use Rattle.std.specs.Prelude.{◌≡◌, ◌≤◌, ◌+◌, ℕ, suc, length, List, [], ◌∷◌, map, Bool, true, false, cond, ◌||◌, is_some}
+use Rattle.std.specs.Prelude.{◌≡◌, ◌≤◌, ◌+◌, ℕ, suc, length, List, [], ◌∷◌, map, Bool, true, false, cond, is_some}
 use Rattle.std.specs.declared.option.Option.{Option}
 use Rattle.std.specs.declared.option.Option.TheVariants.{Some, None}
 use Rattle.std.specs.BTreeMap as tree
@@ -20,20 +20,8 @@ use Rattle.vpn_tables.specs.declared.stored.Entry.{Entry}
 use Rattle.vpn_tables.specs.declared.stored.RowKey.{RowKey}
 use Rattle.vpn_tables.proofs.Order.{row_exact, row_itself}
 
--- ---- one key after the other
-pub one_place : (b r o n : Bool) → (b ≡ true → n ≡ true) → (o ≡ true → n ≡ true) → ((b || r) || o) ≡ true → (r || n) ≡ true
-one_place b true o n f g e = refl
-one_place true false o n f g e = f refl
-one_place false false o n f g e = g e
-
 abbrev renewed : Entry → Option Entry → Option Entry
 renewed e o = option_map (λ _. e) o
-
-pub one_renewed : (b r : Bool) (e : Entry) (o : Option Entry) → cond r (renewed e (cond b (renewed e o) o)) (cond b (renewed e o) o) ≡ cond (b || r) (renewed e o) o
-one_renewed true true e None = refl
-one_renewed true true e (Some x) = refl
-one_renewed true false e o = refl
-one_renewed false r e o = refl
 
 -- ---- a listed row is among the keys
 pub listed : (k : RowKey) (rows : List (InstanceId × Block)) → Member (k.instance, k.prefix) rows → list_any (is_row k) (map key_at rows) ≡ true

@@ -1,6 +1,5 @@
 -- Lemmas, in the order in which they stand on each other.
 mod Order
-mod Places
 mod Keeping
 mod UpStays
 mod Touching
