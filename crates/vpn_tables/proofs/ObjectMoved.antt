@@ -1,5 +1,5 @@
 -- Where an object changes, its own instances change alone, and what is published in them.
-use Rattle.std.specs.Prelude.{◌≡◌, ◌≢◌, ◌⊎◌, ℕ, ◌≤◌, ◌-◌, List, [], ◌∷◌, map, true, false, cond, ◌==◌, is_some}
+use Rattle.std.specs.Prelude.{◌≡◌, ◌≢◌, ◌⊎◌, Ok, Err, OnOk, OnErr, Result, ℕ, ◌≤◌, List, [], ◌∷◌, true, false, cond, ◌==◌, is_some}
 use Rattle.std.specs.List.{enumerate_from, filter_map, flat_map}
 use Rattle.std.specs.FinMap.{entries}
 use Rattle.std.proofs.lemmas.Bool.{true≢false, eq-eqb}
@@ -31,7 +31,7 @@ use Rattle.vpn_holdings.specs.Gathered.{held_keys, keys_told, up_key}
 use Rattle.vpn_holdings.specs.Touched.{imports_one, is_touched, touched_rows}
 use Rattle.control_change_laws.proofs.Objects.{object_stays}
 use Rattle.control_change_laws.proofs.Wanted.{at_row}
-use Rattle.vpn_tables.specs.Changing.{is_of, rows_published}
+use Rattle.vpn_tables.specs.Changing.{is_of, makes_rows, rows_published}
 use Rattle.vpn_tables.specs.Stored.{entry_of}
 use Rattle.vpn_tables.specs.declared.stored.RowKey.{RowKey}
 use Rattle.vpn_tables.proofs.AgentMoved.{Publishes, imported_touched, not_true, use_touched}
@@ -47,7 +47,7 @@ use_apart k i place none e =
     true≢false (sym (ap (λ b. cond b (use_of i == use_of i) false) place ∙ eq-eqb (use_of i) (use_of i) refl) ∙ ap (λ (j : LowKey). is_of j i) (sym e) ∙ none)
 
 -- a place of a use is its object's
-pub of_place : (k : LowKey) (u j n : ℕ) → j ≤ 15 → n ≤ 15 → is_of k (hop_instance_of u j) ≡ is_of k (hop_instance_of u n)
+of_place : (k : LowKey) (u j n : ℕ) → j ≤ 15 → n ≤ 15 → is_of k (hop_instance_of u j) ≡ is_of k (hop_instance_of u n)
 of_place (key.ChainUse v) u j n w x =
     ap (λ b. cond b (use_of (hop_instance_of u j) == v) false) (is_hop-hop u j) ∙ ap (λ m. m == v) (use_of-hop u j w)
     ∙ sym (ap (λ b. cond b (use_of (hop_instance_of u n) == v) false) (is_hop-hop u n) ∙ ap (λ m. m == v) (use_of-hop u n x))
@@ -155,18 +155,25 @@ module _ (h : Holdings) (d : Delta LowKey LowValue) (short_h : AreShort h.feed) 
       alike h later (is_of k) (Moves k h.agents) there back short_h short_g r c (clean_too h later (is_of k) (Moves k h.agents) there back r.instance r.prefix c)
 
   -- of an attachment or an access list
-  nothing_of : (j : LowKey) (i : InstanceId) → ((n : ℕ) → j ≢ key.Instance n) → ((n : ℕ) → j ≢ key.ChainUse n) → is_of j i ≡ false
-  nothing_of (key.Instance n) i a b = absurd (a n refl)
-  nothing_of (key.ChainUse n) i a b = absurd (b n refl)
-  nothing_of (key.Attach n) i a b = refl
-  nothing_of (key.Acl m n) i a b = refl
+  none_of : (j : LowKey) (i : InstanceId) → makes_rows j ≡ false → is_of j i ≡ false
+  none_of (key.Instance n) i e = absurd (true≢false e)
+  none_of (key.ChainUse n) i e = absurd (true≢false e)
+  none_of (key.Attach n) i e = refl
+  none_of (key.Acl m n) i e = refl
 
-  pub other_entry : ((n : ℕ) → k ≢ key.Instance n) → ((n : ℕ) → k ≢ key.ChainUse n) → (r : RowKey) → entry_of h r ≡ entry_of later r
-  other_entry a b r =
-      let none : (i : InstanceId) → is_of k i ≡ false = λ i. nothing_of k i a b in
+  other_entry : makes_rows k ≡ false → (r : RowKey) → entry_of h r ≡ entry_of later r
+  other_entry e r =
+      let none : (i : InstanceId) → is_of k i ≡ false = λ i. none_of k i e in
       let c : IsClean h (is_of k) (Moves k h.agents) r.instance r.prefix = record {
         other = none r.instance;
         row = λ j m. absurd (true≢false (sym m.of_object ∙ none j));
         of_use = λ s held row j x m. absurd (true≢false (sym m.of_object ∙ none j));
       } in
       alike h later (is_of k) (Moves k h.agents) there back short_h short_g r c (clean_too h later (is_of k) (Moves k h.agents) there back r.instance r.prefix c)
+
+-- where it may have failed
+pub changed_entry : {T E : Type 0} (h g : Holdings) (d : Delta LowKey LowValue) (r : Result T E) → OnOk r (g ≡ with_low h d) → OnErr r (g ≡ h) → AreShort h.feed → AreShort g.feed → makes_rows (key_of d) ≡ false
+    → (k : RowKey) → entry_of h k ≡ entry_of g k
+changed_entry h g d (Ok done) ok err short_h short_g none k =
+    other_entry h d short_h (subst (λ (x : Holdings). AreShort x.feed) ok short_g) none k ∙ ap (λ (x : Holdings). entry_of x k) (sym ok)
+changed_entry h g d (Err e) ok err short_h short_g none k = ap (λ (x : Holdings). entry_of x k) (sym err)

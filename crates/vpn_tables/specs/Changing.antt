@@ -1,5 +1,5 @@
 -- The rows that a change of an agent's address, or of an object, may change.
-use Rattle.std.specs.Prelude.{ℕ, List, [], ◌∷◌, ◌++◌, map, Bool, false, ◌==◌, nat_le, if◌then◌else◌}
+use Rattle.std.specs.Prelude.{ℕ, List, [], ◌∷◌, ◌++◌, map, Bool, true, false, ◌==◌, nat_le, if◌then◌else◌}
 use Rattle.std.specs.declared.option.Option.{Option}
 use Rattle.std.specs.declared.option.Option.TheVariants.{Some, None}
 use Rattle.std.specs.List.{flat_map}
@@ -41,6 +41,12 @@ abbrev pub is_of : LowKey → InstanceId → Bool
 is_of (key.Instance n) i = if is_hop i then false else i.0 == n
 is_of (key.ChainUse u) i = if is_hop i then use_of i == u else false
 is_of _ i = false
+
+-- rows follow from it: from an attachment and an access list none do
+abbrev pub makes_rows : LowKey → Bool
+makes_rows (key.Instance n) = true
+makes_rows (key.ChainUse u) = true
+makes_rows _ = false
 
 -- the subnets of a use
 abbrev pub subnets_by : Option Use → List Block

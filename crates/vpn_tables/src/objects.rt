@@ -1,7 +1,7 @@
 //! An object changes, with the rows that follow from it. Where memory is wanting, nothing changes.
-ghost use Rattle.std.specs.Prelude.{◌≡◌, ◌≢◌, ◌<◌, ◌++◌, ℕ, map, false, Some, IfOk, OnErr, OnOk};
+ghost use Rattle.std.specs.Prelude.{◌≡◌, ◌<◌, ◌++◌, map, false, Some, IfOk, OnErr, OnOk};
 ghost use Rattle.std.specs.List.{flat_map};
-ghost use Rattle.ov_sync.specs.Keyed.{IsPut, PutOf};
+ghost use Rattle.ov_sync.specs.Keyed.{IsPut, PutOf, key_of};
 ghost use Rattle.ov_sync.specs.declared.Delta.TheVariants.{Put as PutDelta, Drop as DropDelta};
 ghost use Rattle.ov_types.specs.Prefix.{Block};
 ghost use Rattle.ov_types.specs.declared.objects.LowKey.TheVariants as key;
@@ -9,8 +9,9 @@ ghost use Rattle.node_model.specs.Maps.{object};
 ghost use Rattle.vpn_holdings.specs.Changes.{with_low};
 ghost use Rattle.vpn_holdings.specs.Gathered.{held_keys, prefixes_told};
 ghost use Rattle.vpn_holdings.specs.Ranges.{Fits};
-ghost use Rattle.vpn_tables.specs.Changing.{instances_of, is_of, own_rows, rows_by_object, rows_published, subnets_of};
-ghost use Rattle.vpn_tables.specs.Stored.{AreStored, key_at};
+ghost use Rattle.vpn_tables.specs.Changing.{instances_of, is_of, makes_rows, own_rows, rows_by_object, rows_published, subnets_of};
+ghost use Rattle.vpn_tables.specs.Stored.{AreStored, entry_of, key_at};
+ghost use Rattle.vpn_tables.specs.declared.stored.RowKey.{RowKey as RowKeyOf};
 
 use crate::agents::push_rows;
 use crate::dropping::refresh_stored;
@@ -223,22 +224,34 @@ fn drop_object(held: &mut VpnHoldings, stored: &mut Stored, of: LowKey) -> Resul
     ensures err { OnErr result (held.new ≡ held.old) }
     ensures memory { OnErr result ⊥ }
 {
-    held.uses_are_short();
     held.set_low(Delta::Drop(of))?;
-    held.uses_are_short();
     refresh_stored(stored, held);
     Ok(())
 }
 
 /// Whether rows follow from the object of a key: from an attachment and an access list none do.
 fn makes_rows(object_key: &LowKey) -> bool
-    ensures { result ≡ false → ((n : ℕ) → object_key.now ≢ key.Instance n)
-        × ((n : ℕ) → object_key.now ≢ key.ChainUse n) }
+    ensures { result ≡ makes_rows object_key.now }
 {
     match object_key {
         LowKey::Attach(_) | LowKey::Acl { .. } => false,
         LowKey::Instance(_) | LowKey::ChainUse(_) => true,
     }
+}
+
+/// Applies a change of an object from which no rows follow.
+fn change_other(held: &mut VpnHoldings, delta: Delta<LowKey, LowValue>) -> Result<(), NoMemory>
+    requires fits { PutOf Fits delta }
+    requires none { makes_rows (key_of delta) ≡ false }
+    ensures ok { OnOk result (held.new ≡ with_low held.old delta) }
+    ensures err { OnErr result (held.new ≡ held.old) }
+    ensures entries { (k : RowKeyOf) → entry_of held.old k ≡ entry_of held.new k }
+    ensures memory { OnErr result (IsPut delta) }
+{
+    held.uses_are_short();
+    let changed = held.set_low(delta);
+    held.uses_are_short();
+    changed
 }
 
 /// Applies a change that the feed told.
@@ -260,13 +273,13 @@ pub(crate) fn change_low(
             if makes_rows(&of) {
                 return put_object::<Brand>(alloc, held, stored, of, value, Blank::new(1));
             }
-            held.set_low(Delta::Put(of, value))
+            change_other(held, Delta::Put(of, value))
         }
         Delta::Drop(of) => {
             if makes_rows(&of) {
                 return drop_object(held, stored, of);
             }
-            held.set_low(Delta::Drop(of))
+            change_other(held, Delta::Drop(of))
         }
     }
 }

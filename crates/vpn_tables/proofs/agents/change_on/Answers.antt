@@ -12,7 +12,3 @@ returns-in-Ok-clause-stored g c =
     c.refresh.ensures.stored h (λ k. c.make_places.ensures.stays k ∙ c.requires.stored k) (λ k none.
     agent_entry h c.args.session c.args.address c.agents_are_in_order.ensures c.uses_are_short.ensures k (not_listed c.as_slice-keys.result.now (rows_by_agent h c.args.session) k keys none)
     ∙ ap (λ g. entry_of g k) (sym c.in-Ok.ensures.ok))
-
-pub returns-in-Err-clause-stored : goal.returns-in-Err-clause-stored
-returns-in-Err-clause-stored g c = λ k.
-    c.drop_empty.ensures k ∙ c.make_places.ensures.stays k ∙ c.requires.stored k ∙ ap (λ g. entry_of g k) (sym c.in-Err.ensures.err)

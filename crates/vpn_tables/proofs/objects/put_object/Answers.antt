@@ -14,11 +14,11 @@ returns-in-Ok-clause-stored g c =
     let is = c.in-Ok.ensures.ok in
     let keys = c.as_slice-keys.ensures.value ∙ c.in_ok-touched.ensures in
     c.refresh.ensures.stored h (λ k. c.make_places.ensures.stays k ∙ c.requires.stored k) (λ k none.
-    put_entry h c.args.of c.args.value c.uses_are_in_range.ensures.short (subst (λ (x : Holdings). AreShort x.feed) is c.uses_are_in_range-2.ensures.short)
-    c.uses_are_in_range.ensures.in_range (subst (λ (x : Holdings). UsesAreInRange x.feed) is c.uses_are_in_range-2.ensures.in_range)
+    put_entry h c.args.of c.args.value c.uses_are_in_range.ensures.short (subst (λ (x : Holdings). AreShort x.feed) is c.uses_are_in_range-in-Ok.ensures.short)
+    c.uses_are_in_range.ensures.in_range (subst (λ (x : Holdings). UsesAreInRange x.feed) is c.uses_are_in_range-in-Ok.ensures.in_range)
     k (not_listed c.as_slice-keys.result.now (rows_by_object h c.args.of c.args.value) k keys none)
     ∙ ap (λ g. entry_of g k) (sym is))
 
-pub returns-in-Err-clause-stored : goal.returns-in-Err-clause-stored
-returns-in-Err-clause-stored g c = λ k.
-    c.drop_empty.ensures k ∙ c.make_places.ensures.stays k ∙ c.requires.stored k ∙ ap (λ g. entry_of g k) (sym c.in-Err.ensures.err)
+pub returns-clause-stored : goal.returns-clause-stored
+returns-clause-stored g c = λ k.
+    c.drop_empty.ensures k ∙ c.make_places.ensures.stays k ∙ c.requires.stored k ∙ ap (λ g. entry_of g k) (sym (c.in-Err.ensures.err))
