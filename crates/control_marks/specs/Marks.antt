@@ -1,5 +1,5 @@
 -- What may have changed of what sessions are to be told, since they were told last.
-use Rattle.std.specs.Prelude.{◌≡◌, ◌==◌, ℕ, List, map, Bool, if◌then◌else◌, true, false, is_some, refl}
+use Rattle.std.specs.Prelude.{◌≡◌, ◌≢◌, ◌==◌, ℕ, List, map, Bool, if◌then◌else◌, true, false, is_some, refl}
 use Rattle.std.specs.declared.option.Option.{Option}
 use Rattle.std.specs.declared.option.Option.TheVariants.{Some, None}
 use Rattle.std.specs.Coded.{Coded, code_by, coded×, coded_bool, coded_list, coded_option}
@@ -24,6 +24,9 @@ use Rattle.vpn_tables.specs.NodeModel.Keys.{Key, Low, Row, Subscribe, Vpn, of_do
 use Rattle.vpn_tables.specs.NodeModel.Paths.{Holdings, Told}
 use Rattle.vpn_tables.specs.NodeModel.Wants.{wanted_by_peers}
 use Rattle.vpn_tables.specs.Listing.{told_in}
+use Rattle.vpn_tables.specs.Followed.{led_key}
+use Rattle.vpn_tables.specs.declared.changes.RowChange.{RowChange}
+use Rattle.vpn_holdings.specs.declared.routes.Route.{Route}
 use Rattle.control_change_laws.specs.Here.{port_here, wanted_on}
 use Rattle.control_marks.specs.declared.whom.Whom.{Whom}
 use Rattle.control_marks.specs.declared.whom.Whom.TheVariants.{Every, Only, Subscribers}
@@ -118,15 +121,6 @@ pub record Covers (d d' : Marks) (h h' : Holdings) : Type 0 where
 abbrev pub Covered : Marks → Marks → Holdings → Holdings → Type 0
 Covered d d' h h' = d'.all ≡ false → Covers d d' h h'
 
--- these rows are marked of the agents that subscribe them, and these keys of peers
-abbrev pub AreRowsMarked : Marks → List (InstanceId × Block) → Type 0
-AreRowsMarked d rows =
-    d.all ≡ false → (i : InstanceId) (q : Block) → Member (i, q) rows → (a : Told)
-    → is_some (get a.map (Subscribe i)) ≡ true → IsCleanItem d a (Row i q) → ⊥
-
-abbrev pub AreRoutesMarked : Marks → List VpnKey → Type 0
-AreRoutesMarked d keys = d.all ≡ false → (k : VpnKey) → Member k keys → IsCleanRoute d (Vpn k) → ⊥
-
 -- the rows of an instance with these prefixes are marked of such agents
 abbrev pub AreTableRowsMarked : Marks → Whom → InstanceId → List (Block × TableRow) → Type 0
 AreTableRowsMarked d whom i rows =
@@ -138,3 +132,26 @@ abbrev pub AreListsMarked : Marks → ℕ → List (LowKey × LowValue) → Type
 AreListsMarked d from objects =
     d.all ≡ false → (to : ℕ) (v : LowValue) → Member (key.Acl from to, v) objects → (a : Told)
     → IsCleanItem d a (Low (key.Acl from to)) → ⊥
+
+-- ---- what changed is marked
+-- the key of a route that leads on is marked of peers, where there is one
+abbrev pub IsLedMarked : Marks → Option Route → Type 0
+IsLedMarked d led = (r : Route) → led ≡ Some r → IsCleanRoute d (Vpn (led_key r)) → ⊥
+
+-- those of the one before a change and of the one after it, where they are not one
+abbrev pub AreLedMarked : Marks → Option Route → Option Route → Type 0
+AreLedMarked d before after = d.all ≡ false → before ≢ after → IsLedMarked d before × IsLedMarked d after
+
+-- the row is marked of those who subscribe it, where another path is selected
+abbrev pub IsRowMarked : Marks → RowChange → Type 0
+IsRowMarked d c =
+    d.all ≡ false → c.before.path ≢ c.after.path → (a : Told) → is_some (get a.map (Subscribe c.instance)) ≡ true
+    → IsCleanItem d a (Row c.instance c.prefix) → ⊥
+
+pub record IsChangeMarked (d : Marks) (c : RowChange) : Type 0 where
+  pub row : IsRowMarked d c
+  pub right : AreLedMarked d c.before.led_right c.after.led_right
+  pub left : AreLedMarked d c.before.led_left c.after.led_left
+
+abbrev pub AreChangesMarked : Marks → List RowChange → Type 0
+AreChangesMarked d cs = (c : RowChange) → Member c cs → IsChangeMarked d c

@@ -5,6 +5,7 @@ mod UpStays
 mod Touching
 mod LedStays
 mod MovedRows
+pub mod Differing
 mod Same
 mod Less
 mod Alike

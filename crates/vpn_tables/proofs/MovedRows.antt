@@ -1,5 +1,5 @@
 -- What follows of an instance and a prefix is one thing, and stays where a change does not touch it.
-use Rattle.std.specs.Prelude.{◌≡◌, ◌≢◌, ◌==◌, ◌&&◌, not, IfOk, IfSome, OnErr, ℕ, zero, suc, List, [], ◌∷◌, map, Bool, true, false, cond, nat_le}
+use Rattle.std.specs.Prelude.{◌≡◌, ◌≢◌, ◌⊎◌, ◌==◌, ◌&&◌, not, IfOk, IfSome, OnErr, ℕ, zero, suc, List, [], ◌∷◌, map, Bool, true, false, cond, nat_le}
 use Rattle.std.specs.declared.option.Option.{Option}
 use Rattle.std.specs.declared.option.Option.TheVariants.{Some, None}
 use Rattle.std.specs.declared.result.Result.{Result}
@@ -7,7 +7,7 @@ use Rattle.std.specs.declared.result.Result.TheVariants.{Ok, Err}
 use Rattle.std.specs.Option.{option_eq}
 use Rattle.std.specs.List.{AllByRecursion, filter, list_any}
 use Rattle.std.proofs.lemmas.Bool.{and_parts, eq-eqb, eqb-true, true≢false}
-use Rattle.std.proofs.Common.{refl, sym, ◌∙◌, ap, subst}
+use Rattle.std.proofs.Common.{refl, sym, ◌∙◌, ap, subst, inl, inr}
 use Rattle.ov_sync.specs.declared.Delta.{Delta}
 use Rattle.ov_sync.specs.Keyed.{key_of}
 use Rattle.ov_types.specs.Prefix.{Block}
@@ -234,22 +234,22 @@ module _ {T : Type 0} (eq : T → T → Bool) (is : (x y : T) → eq x y ≡ tru
   option_itself (Some x) = own x
 
 -- something is there, or nothing, and each is the other or not
-abbrev pub same_path : Option Selected → Option Selected → Bool
+abbrev same_path : Option Selected → Option Selected → Bool
 same_path = option_eq path_eq.ghosts.eq
 
-abbrev pub same_route : Option Route → Option Route → Bool
+abbrev same_route : Option Route → Option Route → Bool
 same_route = option_eq route_eq.ghosts.eq
 
-pub same_path_is : (a b : Option Selected) → same_path a b ≡ true → a ≡ b
+same_path_is : (a b : Option Selected) → same_path a b ≡ true → a ≡ b
 same_path_is = option_is path_eq.ghosts.eq path_is path_itself
 
-pub same_path_itself : (a : Option Selected) → same_path a a ≡ true
+same_path_itself : (a : Option Selected) → same_path a a ≡ true
 same_path_itself = option_itself path_eq.ghosts.eq path_is path_itself
 
-pub same_route_is : (a b : Option Route) → same_route a b ≡ true → a ≡ b
+same_route_is : (a b : Option Route) → same_route a b ≡ true → a ≡ b
 same_route_is = option_is route_eq.ghosts.eq route_is route_itself
 
-pub same_route_itself : (a : Option Route) → same_route a a ≡ true
+same_route_itself : (a : Option Route) → same_route a a ≡ true
 same_route_itself = option_itself route_eq.ghosts.eq route_is route_itself
 
 eq_is : (a b : Followed) → followed_eq.ghosts.eq a b ≡ true → a ≡ b
@@ -283,3 +283,20 @@ kept_other all kept e = record {
   each = λ c m. let f = from_filter is_other c all (subst (Member c) e m) in (f.0, not_same c f.1);
   every = λ c m differ. subst (Member c) (sym e) (in_filter is_other c all m (other_from c differ));
 }
+
+-- of each two things it is known whether they are one
+cases : {X : Type 0} (same : X → X → Bool) → ((a b : X) → same a b ≡ true → a ≡ b) → ((a : X) → same a a ≡ true) → (a b : X) → (a ≡ b) ⊎ (a ≢ b)
+cases same is own a b =
+    elim (same a b) as (λ t. same a b ≡ t → (a ≡ b) ⊎ (a ≢ b)) [
+      | true ↦ λ t. inl (is a b t)
+      | false ↦ λ t. inr (λ e. true≢false (sym (own b) ∙ ap (λ x. same x b) (sym e) ∙ t))
+    ] refl
+
+pub path_cases : (a b : Option Selected) → (a ≡ b) ⊎ (a ≢ b)
+path_cases = cases same_path same_path_is same_path_itself
+
+pub route_cases : (a b : Option Route) → (a ≡ b) ⊎ (a ≢ b)
+route_cases = cases same_route same_route_is same_route_itself
+
+pub followed_cases : (a b : Followed) → (a ≡ b) ⊎ (a ≢ b)
+followed_cases = cases followed_eq.ghosts.eq eq_is eq_itself

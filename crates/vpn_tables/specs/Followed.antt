@@ -1,5 +1,5 @@
 -- What follows of an instance and a prefix, as sessions are told it, and what a change changes of that.
-use Rattle.std.specs.Prelude.{◌≡◌, ◌≢◌, List, [], ◌∷◌, true, false}
+use Rattle.std.specs.Prelude.{◌≡◌, ◌≢◌, List, [], ◌∷◌, Bool, true, false}
 use Rattle.std.specs.declared.option.Option.{Option}
 use Rattle.std.specs.declared.option.Option.TheVariants.{Some, None}
 use Rattle.std.specs.List.{cons_option}
@@ -7,6 +7,7 @@ use Rattle.std.specs.Option.{option_map}
 use Rattle.ov_types.specs.Prefix.{Block}
 use Rattle.ov_types.specs.declared.numbers.InstanceId.{InstanceId}
 use Rattle.ov_types.specs.declared.targets.Target.{Target}
+use Rattle.ov_types.specs.declared.vpn.VpnKey.{VpnKey}
 use Rattle.node_model.specs.Members.{Member}
 use Rattle.node_model.specs.Paths.{Holdings, Path}
 use Rattle.vpn_holdings.specs.At.{led_at, selected_at}
@@ -18,6 +19,14 @@ use Rattle.vpn_tables.specs.declared.changes.RowChange.{RowChange}
 -- a route that leads on, as a list of none or one
 abbrev pub led_by : Option Route → List Path
 led_by r = cons_option (option_map path_of r) []
+
+-- the one from an end, and its key towards peers
+abbrev pub led_of : Bool → Followed → Option Route
+led_of true f = f.led_right
+led_of false f = f.led_left
+
+abbrev pub led_key : Route → VpnKey
+led_key r = record { rd = r.path.rd; prefix = r.prefix }
 
 -- the selected path, and the routes that lead the prefix on into the place of a use that the instance is
 pub record IsFollowed (h : Holdings) (i : InstanceId) (q : Block) (f : Followed) : Type 0 where

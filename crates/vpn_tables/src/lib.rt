@@ -14,5 +14,6 @@ mod stored;
 mod tables;
 
 pub use changes::{Followed, RowChange};
+pub use path_select::Steps;
 pub use tables::VpnTables;
 pub use vpn_holdings::{Route, Side, in_order};
