@@ -1,12 +1,12 @@
 -- Marks of what peers and agents told cover what it changes.
-use Rattle.std.specs.Prelude.{◌≡◌, ◌⊎◌, ◌<◌, ℕ, zero, suc, List, [], ◌∷◌, ◌++◌, map, take, length, get_or, is_some, Bool, true, false, cond, ◌==◌, ◌≢◌}
+use Rattle.std.specs.Prelude.{◌≡◌, ◌⊎◌, ◌<◌, ℕ, zero, suc, List, [], ◌∷◌, ◌++◌, map, take, length, get_or, is_some, IfSome, Bool, true, false, cond, ◌==◌, ◌≢◌}
 use Rattle.std.specs.declared.option.Option.{Option}
 use Rattle.std.specs.declared.option.Option.TheVariants.{Some, None}
 use Rattle.std.specs.FinMap.{entries, find, get, get-entries, get-from_entries}
 use Rattle.std.specs.List.{AllByRecursion, filter}
 use Rattle.std.specs.Option.{option_map}
 use Rattle.std.proofs.Common.{refl, sym, ◌∙◌, ap, subst, inl, inr, arith}
-use Rattle.std.proofs.lemmas.Bool.{and_parts, eqb-true}
+use Rattle.std.proofs.lemmas.Bool.{and_parts, eqb-true, true≢false}
 use Rattle.std.proofs.lemmas.Bool.Decides.{nat_tests}
 use Rattle.ov_types.specs.Prefix.{Block, block_cmp}
 use Rattle.ov_types.specs.declared.keys.DownKey.TheVariants as down
@@ -350,3 +350,29 @@ covers_publication m m' h session d cs range within all own subscribed kept each
       where
         apart : (a b : ℕ) → a ≡ b → (a == b) ≡ false → ⊥
         apart a b same e = grind (arith, nat_tests)
+
+-- ---- where it is known what changed
+module _ {V : Type 0} (items : V → List RowChange) (m m' : Marks) (h : Holdings) (session : ℕ) (all : m'.all ≡ false) (within : IsWithin m m') (range : UsesAreInRange h.feed) where
+  abbrev IsTold : Holdings → Option V → Type 0
+  IsTold g changes = IfSome changes (λ rows. AllByRecursion (IsRowChange h g) (items rows))
+
+  abbrev IsWhole : Holdings → Option V → Type 0
+  IsWhole g changes = IfSome changes (λ rows. (i : InstanceId) (q : Block) → HasMoved h g i q → IsListed (items rows) i q)
+
+  abbrev IsMarked : Option V → Type 0
+  IsMarked changes = IfSome changes (λ rows. AreChangesMarked m' (items rows))
+
+  pub route_covered : (d : Delta VpnKey VpnRoute) (g : Holdings) → g ≡ with_route h session d → (changes : Option V) → is_some changes ≡ true → IsTold g changes → IsWhole g changes → IsMarked changes → Covers m m' h g
+  route_covered d g is None known each every marked = absurd (true≢false (sym known))
+  route_covered d g is (Some rows) known each every marked =
+      subst (λ (g : Holdings). IsTold g (Some rows) → IsWhole g (Some rows) → Covers m m' h g) (sym is) (λ each every. covers_route m m' h session d (items rows) range within all each every marked) each every
+
+  pub publication_covered : (d : Delta UpKey LabelNo) (g : Holdings) → g ≡ with_publication h session d → (changes : Option V) → is_some changes ≡ true
+      → ((k : VpnKey) → key_published h session (key_of d) ≡ Some k → IsCleanRoute m' (Vpn k) → ⊥)
+      → ((i : InstanceId) → key_of d ≡ Up.Subscribe i → (a : Told) → a.address ≡ (told_in h.agents session).address → (k : Key) → IsCleanItem m' a k → IsRowOf h i k → ⊥)
+      → ((i : InstanceId) → key_of d ≡ Up.Subscribe i → (a b : Told) → a.address ≡ (told_in h.agents session).address → b.address ≡ (told_in h.agents session).address → (k : Key) → IsCleanItem m' a k → IsCleanItem m b k)
+      → IsTold g changes → IsWhole g changes → IsMarked changes → Covers m m' h g
+  publication_covered d g is None known own subscribed kept each every marked = absurd (true≢false (sym known))
+  publication_covered d g is (Some rows) known own subscribed kept each every marked =
+      subst (λ (g : Holdings). IsTold g (Some rows) → IsWhole g (Some rows) → Covers m m' h g) (sym is)
+      (λ each every. covers_publication m m' h session d (items rows) range within all own subscribed kept each every marked) each every
