@@ -263,18 +263,15 @@ pub covers_route : (m m' : Marks) (h : Holdings) (session : ℕ) (d : Delta VpnK
     → Covers m m' h (with_route h session d)
 covers_route m m' h session d cs range within all each every marked = record {
   addresses = route_address h session d;
-  peers = λ k clean. peers_by_routes h g k (λ v is.
-      wanted_same h g v (own_stays h session d v) (led_same m' all h g cs each every marked range (same_feed h session d range) v (subst (IsCleanRoute m') is clean)));
-  agents = λ agent k clean. by_row h g agent k
-      (λ i q is. told_same h g agent i q (ap (λ ts. is_some (get (told_in ts agent).map (Subscribe i))) (with_route_agents h session d)) (λ subscribes.
-      row_same m' all h g cs each every marked (told_in h.agents agent) i q subscribes (subst (IsCleanItem m' (told_in h.agents agent)) is (as_before agent k clean))))
+  peers = λ k clean. peers_by_routes h (with_route h session d) k (λ v is.
+      wanted_same h (with_route h session d) v (own_stays h session d v) (led_same m' all h (with_route h session d) cs each every marked range (same_feed h session d range) v (subst (IsCleanRoute m') is clean)));
+  agents = λ agent k clean. by_row h (with_route h session d) agent k
+      (λ i q is. told_same h (with_route h session d) agent i q (ap (λ ts. is_some (get (told_in ts agent).map (Subscribe i))) (with_route_agents h session d)) (λ subscribes.
+      row_same m' all h (with_route h session d) cs each every marked (told_in h.agents agent) i q subscribes (subst (IsCleanItem m' (told_in h.agents agent)) is (as_before agent k clean))))
       (λ other. route_rows h session d agent k (λ i q is _. absurd (other i q is)));
   kept = λ agent k clean. within.items (told_in h.agents agent) k (as_before agent k clean);
 }
   where
-    abbrev g : Holdings
-    g = with_route h session d
-
     as_before : (agent : ℕ) (k : Key) → IsCleanItem m' (told_in (with_route h session d).agents agent) k → IsCleanItem m' (told_in h.agents agent) k
     as_before agent k clean = subst (λ ts. IsCleanItem m' (told_in ts agent) k) (with_route_agents h session d) clean
 

@@ -257,28 +257,6 @@ impl VpnTables {
         self.held.targets_by_route(session, delta)
     }
 
-    /// The target before and after a change of what an agent told: that of the instance in which it publishes.
-    pub fn targets_by_publication(
-        &self,
-        session: u16,
-        delta: &Delta<UpKey, Label>,
-    ) -> Result<Vec<Target>, NoMemory>
-        ensures { IfOk result (λ targets. targets.items ≡ targets_by_publication self.now session delta.now) }
-    {
-        self.held.targets_by_publication(session, delta)
-    }
-
-    /// The rows that a change of paths to a prefix, with these targets before and after it, may change.
-    pub fn touched_rows(
-        &self,
-        targets: &[Target],
-        prefix: Prefix,
-    ) -> Result<Vec<(InstanceId, Prefix)>, NoMemory>
-        ensures { IfOk result (λ rows. rows.items ≡ touched_rows self.now targets.now prefix) }
-    {
-        self.held.touched_rows(targets, prefix)
-    }
-
     /// The rows that a change of a peer's route may change.
     pub fn touched_by_route(
         &self,
@@ -292,7 +270,7 @@ impl VpnTables {
     }
 
     /// Those that a change of what an agent told may change: of a subscription none.
-    pub fn touched_by_publication(
+    pub(crate) fn touched_by_publication(
         &self,
         session: u16,
         delta: &Delta<UpKey, Label>,
