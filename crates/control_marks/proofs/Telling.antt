@@ -27,7 +27,6 @@ use Rattle.vpn_tables.specs.NodeModel.Keys.{Key, Low, Publish, Row, Subscribe, V
 use Rattle.vpn_tables.specs.NodeModel.Members.{Member}
 use Rattle.vpn_tables.specs.NodeModel.Paths.{Holdings, Path, Told, own_paths}
 use Rattle.vpn_tables.specs.NodeModel.Reaching.{AreShort, reoriginated_paths}
-use Rattle.node_model.specs.Agent.{first_some}
 use Rattle.vpn_tables.specs.NodeModel.Tables.{same_prefix, table, table_row}
 use Rattle.vpn_tables.specs.NodeModel.Values.{Entry, Label}
 use Rattle.vpn_tables.specs.NodeModel.Wants.{route_entry, wanted_by_peers}
@@ -40,12 +39,10 @@ use Rattle.vpn_tables.specs.At.{row_at, selected_at, shown}
 use Rattle.vpn_tables.specs.Gathered.{UsesAreInRange}
 use Rattle.vpn_tables.specs.Moved.{moved_by_publication}
 use Rattle.vpn_tables.specs.TouchedKeys.{first_keyed, key_published, path_key, same_key}
-use Rattle.vpn_tables.specs.Followed.{HasMoved, IsListed, IsRowChange, led_key, led_of}
+use Rattle.vpn_tables.specs.Followed.{HasMoved, IsListed, IsRowChange, key_led, led_of}
 use Rattle.vpn_tables.specs.declared.changes.RowChange.{RowChange}
-use Rattle.vpn_holdings.specs.declared.routes.Route.{Route as LedRoute}
 use Rattle.vpn_tables.proofs.Choosing.{shown_plain}
-use Rattle.vpn_tables.proofs.Differing.{IsUnder, keyed_same, selected_same}
-use Rattle.vpn_tables.proofs.Keyed.{first_append}
+use Rattle.vpn_tables.proofs.Differing.{IsUnder, appended_same, keyed_same, selected_same}
 use Rattle.control_wants.specs.Entries.{hop_of}
 use Rattle.control_wants.proofs.OneKey.{no_row_wanted, route_wanted, row_wanted, told_value}
 use Rattle.control_change_laws.proofs.Covering.{moved_publication}
@@ -53,20 +50,20 @@ use Rattle.control_change_laws.proofs.Filtering.{all_from}
 use Rattle.control_change_laws.proofs.Touching.{publication_moves}
 use Rattle.control_change_laws.specs.Here.{IsRowOf, wanted_on}
 use Rattle.control_change_laws.proofs.AgentRows.{publication_address, publication_rows, publication_subscribes, route_address, route_rows, same_elsewhere, subscription_elsewhere, subscription_rows_alone, with_route_agents}
-use Rattle.control_marks.specs.Marks.{AreChangesMarked, AreLedMarked, AreListsMarked, AreTableRowsMarked, Covers, IsChangeMarked, IsCleanItem, IsCleanRoute, IsLedMarked, IsRowMarked, IsWithin, Marks, is_of}
+use Rattle.control_marks.specs.Marks.{AreChangesMarked, AreKeysMarked, AreListsMarked, AreTableRowsMarked, Covers, IsChangeMarked, IsCleanItem, IsCleanRoute, IsKeyMarked, IsRowMarked, IsWithin, Marks, is_of}
 use Rattle.control_marks.specs.declared.whom.Whom.{Whom}
 use Rattle.control_marks.proofs.Growing.{clean_as}
 use Rattle.control_marks.proofs.Sets.{found_entry}
 
 -- ---- marks stay as others are added
-led_stays : (d d' : Marks) (led : Option LedRoute) → IsLedMarked d led → IsWithin d d' → IsLedMarked d' led
-led_stays d d' led m w = λ r is clean. m r is (w.routes (Vpn (led_key r)) clean)
+key_stays : (d d' : Marks) (key : Option VpnKey) → IsKeyMarked d key → IsWithin d d' → IsKeyMarked d' key
+key_stays d d' key m w = λ k is clean. m k is (w.routes (Vpn k) clean)
 
-pub both_stay : (d d' : Marks) (before after : Option LedRoute) → AreLedMarked d before after → IsWithin d d' → AreLedMarked d' before after
-both_stay d d' before after m w = λ all other. (led_stays d d' before (m (w.all all) other).0 w, led_stays d d' after (m (w.all all) other).1 w)
+pub both_stay : (d d' : Marks) (P : Type 0) (before after : Option VpnKey) → AreKeysMarked d P before after → IsWithin d d' → AreKeysMarked d' P before after
+both_stay d d' P before after m w = λ all p. (key_stays d d' before (m (w.all all) p).0 w, key_stays d d' after (m (w.all all) p).1 w)
 
-pub both_marked : (d d' : Marks) (before after : Option LedRoute) → (d.all ≡ false → IsLedMarked d before) → IsWithin d d' → (d'.all ≡ false → IsLedMarked d' after) → AreLedMarked d' before after
-both_marked d d' before after m w now = λ all other. (led_stays d d' before (m (w.all all)) w, now all)
+pub both_marked : (d d' : Marks) (P : Type 0) (before after : Option VpnKey) → (d.all ≡ false → IsKeyMarked d before) → IsWithin d d' → (d'.all ≡ false → IsKeyMarked d' after) → AreKeysMarked d' P before after
+both_marked d d' P before after m w now = λ all _. (key_stays d d' before (m (w.all all)) w, now all)
 
 pub row_stays : (d d' : Marks) (c : RowChange) → IsRowMarked d c → IsWithin d d' → IsRowMarked d' c
 row_stays d d' c m w = λ all other a subscribes clean. m (w.all all) other a subscribes (w.items a (Row c.instance c.prefix) clean)
@@ -74,8 +71,8 @@ row_stays d d' c m w = λ all other a subscribes clean. m (w.all all) other a su
 change_stays : (d d' : Marks) (c : RowChange) → IsChangeMarked d c → IsWithin d d' → IsChangeMarked d' c
 change_stays d d' c m w = record {
   row = row_stays d d' c m.row w;
-  right = both_stay d d' c.before.led_right c.after.led_right m.right w;
-  left = both_stay d d' c.before.led_left c.after.led_left m.left w;
+  right = both_stay d d' (c.before.led_right ≢ c.after.led_right) (key_led c.before.led_right) (key_led c.after.led_right) m.right w;
+  left = both_stay d d' (c.before.led_left ≢ c.after.led_left) (key_led c.before.led_left) (key_led c.after.led_left) m.left w;
 }
 
 -- ---- one more is marked
@@ -187,9 +184,9 @@ first_filtered k (p ∷ ps) =
 wanted_same : (h g : Holdings) (k : VpnKey) → first_keyed k (own_paths h) ≡ first_keyed k (own_paths g) → first_keyed k (reoriginated_paths h) ≡ first_keyed k (reoriginated_paths g)
     → get (wanted_by_peers h) (Vpn k) ≡ get (wanted_by_peers g) (Vpn k)
 wanted_same h g k own led =
-    sym (route_wanted h k (first_some (first_keyed k (own_paths h)) (first_keyed k (reoriginated_paths h))) (sym (first_append k (own_paths h) (reoriginated_paths h))))
-    ∙ ap (option_map told_value) (λ n. first_some (own n) (led n))
-    ∙ route_wanted g k (first_some (first_keyed k (own_paths g)) (first_keyed k (reoriginated_paths g))) (sym (first_append k (own_paths g) (reoriginated_paths g)))
+    sym (route_wanted h k (first_keyed k (own_paths h ++ reoriginated_paths h)) refl)
+    ∙ ap (option_map told_value) (appended_same k (own_paths h) (reoriginated_paths h) (own_paths g) (reoriginated_paths g) own led)
+    ∙ route_wanted g k (first_keyed k (own_paths g ++ reoriginated_paths g)) refl
 
 row_of_selected : (h g : Holdings) (i : InstanceId) (q : Block) → selected_at h i q ≡ selected_at g i q → row_at h i q ≡ row_at g i q
 row_of_selected h g i q same = shown_plain (get (table h i) q) ∙ ap (option_map shown) same ∙ sym (shown_plain (get (table g i) q))
@@ -227,18 +224,17 @@ by_row h g agent (Subscribe j) row other = other (λ i q e. unlike j i q e)
     unlike j i q e = cc
 
 -- ---- where what changed is marked
-module _ (m' : Marks) (all : m'.all ≡ false) (h g : Holdings) (cs : List RowChange) (each : AllByRecursion (IsRowChange h g) cs) (every : (i : InstanceId) (q : Block) → HasMoved h g i q → IsListed cs i q)
-  (marked : AreChangesMarked m' cs) where
-  clean_key : (k : VpnKey) → IsCleanRoute m' (Vpn k) → (c : RowChange) → Member c cs → (b : Bool) → led_of b c.before ≢ led_of b c.after → IsUnder h g cs each every k (led_of b c.before) ⊎ IsUnder h g cs each every k (led_of b c.after) → ⊥
-  clean_key k clean c m b other under =
+module _ (m' : Marks) (all : m'.all ≡ false) (h g : Holdings) (cs : List RowChange) (each : AllByRecursion (IsRowChange h g) cs) (every : (i : InstanceId) (q : Block) → HasMoved h g i q → IsListed cs i q) (marked : AreChangesMarked m' cs) where
+  clean_key : (k : VpnKey) → IsCleanRoute m' (Vpn k) → (c : RowChange) → Member c cs → (b : Bool) → led_of b c.before ≢ led_of b c.after → IsUnder k (led_of b c.before) ⊎ IsUnder k (led_of b c.after) → ⊥
+  clean_key k clean c m b differs under =
       elim under as (λ _. ⊥) [
-        | inl u ↦ (of_end b other).0 u.0 u.1 (subst (λ (v : VpnKey). IsCleanRoute m' (Vpn v)) (sym u.2) clean)
-        | inr u ↦ (of_end b other).1 u.0 u.1 (subst (λ (v : VpnKey). IsCleanRoute m' (Vpn v)) (sym u.2) clean)
+        | inl u ↦ (of_end b differs).0 k u clean
+        | inr u ↦ (of_end b differs).1 k u clean
       ]
     where
-      of_end : (b : Bool) → led_of b c.before ≢ led_of b c.after → IsLedMarked m' (led_of b c.before) × IsLedMarked m' (led_of b c.after)
-      of_end true other = (marked c m).right all other
-      of_end false other = (marked c m).left all other
+      of_end : (b : Bool) → led_of b c.before ≢ led_of b c.after → IsKeyMarked m' (key_led (led_of b c.before)) × IsKeyMarked m' (key_led (led_of b c.after))
+      of_end true differs = (marked c m).right all differs
+      of_end false differs = (marked c m).left all differs
 
   led_same : UsesAreInRange h.feed → UsesAreInRange g.feed → (k : VpnKey) → IsCleanRoute m' (Vpn k) → first_keyed k (reoriginated_paths h) ≡ first_keyed k (reoriginated_paths g)
   led_same there here k clean = keyed_same h g cs each every k there here (clean_key k clean)

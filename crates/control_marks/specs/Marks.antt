@@ -24,9 +24,8 @@ use Rattle.vpn_tables.specs.NodeModel.Keys.{Key, Low, Row, Subscribe, Vpn, of_do
 use Rattle.vpn_tables.specs.NodeModel.Paths.{Holdings, Told}
 use Rattle.vpn_tables.specs.NodeModel.Wants.{wanted_by_peers}
 use Rattle.vpn_tables.specs.Listing.{told_in}
-use Rattle.vpn_tables.specs.Followed.{led_key}
+use Rattle.vpn_tables.specs.Followed.{key_led}
 use Rattle.vpn_tables.specs.declared.changes.RowChange.{RowChange}
-use Rattle.vpn_holdings.specs.declared.routes.Route.{Route}
 use Rattle.control_change_laws.specs.Here.{port_here, wanted_on}
 use Rattle.control_marks.specs.declared.whom.Whom.{Whom}
 use Rattle.control_marks.specs.declared.whom.Whom.TheVariants.{Every, Only, Subscribers}
@@ -134,13 +133,13 @@ AreListsMarked d from objects =
     → IsCleanItem d a (Low (key.Acl from to)) → ⊥
 
 -- ---- what changed is marked
--- the key of a route that leads on is marked of peers, where there is one
-abbrev pub IsLedMarked : Marks → Option Route → Type 0
-IsLedMarked d led = (r : Route) → led ≡ Some r → IsCleanRoute d (Vpn (led_key r)) → ⊥
+-- a key that may not be there is marked of peers
+abbrev pub IsKeyMarked : Marks → Option VpnKey → Type 0
+IsKeyMarked d key = (k : VpnKey) → key ≡ Some k → IsCleanRoute d (Vpn k) → ⊥
 
--- those of the one before a change and of the one after it, where they are not one
-abbrev pub AreLedMarked : Marks → Option Route → Option Route → Type 0
-AreLedMarked d before after = d.all ≡ false → before ≢ after → IsLedMarked d before × IsLedMarked d after
+-- two of them are, where something is so
+abbrev pub AreKeysMarked : Marks → Type 0 → Option VpnKey → Option VpnKey → Type 0
+AreKeysMarked d Differs before after = d.all ≡ false → Differs → IsKeyMarked d before × IsKeyMarked d after
 
 -- the row is marked of those who subscribe it, where another path is selected
 abbrev pub IsRowMarked : Marks → RowChange → Type 0
@@ -150,8 +149,8 @@ IsRowMarked d c =
 
 pub record IsChangeMarked (d : Marks) (c : RowChange) : Type 0 where
   pub row : IsRowMarked d c
-  pub right : AreLedMarked d c.before.led_right c.after.led_right
-  pub left : AreLedMarked d c.before.led_left c.after.led_left
+  pub right : AreKeysMarked d (c.before.led_right ≢ c.after.led_right) (key_led c.before.led_right) (key_led c.after.led_right)
+  pub left : AreKeysMarked d (c.before.led_left ≢ c.after.led_left) (key_led c.before.led_left) (key_led c.after.led_left)
 
 abbrev pub AreChangesMarked : Marks → List RowChange → Type 0
 AreChangesMarked d cs = (c : RowChange) → Member c cs → IsChangeMarked d c

@@ -1,6 +1,6 @@
 //! Changes that peers and agents told.
 ghost use Rattle.std.specs.List.{AllByRecursion};
-ghost use Rattle.std.specs.Prelude.{◌≡◌, ◌<◌, true, false, is_some, Some, IfOk, IfSome, OnOk, OnErr};
+ghost use Rattle.std.specs.Prelude.{◌≡◌, ◌≢◌, ◌<◌, true, false, is_some, Some, IfOk, IfSome, OnOk, OnErr};
 ghost use Rattle.ov_sync.specs.Keyed.{key_of};
 ghost use Rattle.ov_types.specs.Prefix.{Block};
 ghost use Rattle.ov_types.specs.declared.keys.DownKey.TheVariants as down;
@@ -12,11 +12,11 @@ ghost use Rattle.vpn_tables.specs.NodeModel.Members.{Member};
 ghost use Rattle.vpn_tables.specs.NodeModel.Paths.{Told};
 ghost use Rattle.vpn_tables.specs.Changes.{with_publication, with_route};
 ghost use Rattle.vpn_tables.specs.Listing.{told_in};
-ghost use Rattle.vpn_tables.specs.Followed.{HasMoved, IsListed, IsRowChange};
+ghost use Rattle.vpn_tables.specs.Followed.{HasMoved, IsListed, IsRowChange, key_led};
 ghost use Rattle.vpn_tables.specs.TouchedKeys.{key_published};
 ghost use Rattle.control_change_laws.specs.Here.{IsRowOf};
-ghost use Rattle.control_marks.specs.Marks.{AreChangesMarked, AreLedMarked, AreTableRowsMarked};
-ghost use Rattle.control_marks.specs.Marks.{Covered, IsChangeMarked, IsCleanItem, IsCleanRoute, IsLedMarked};
+ghost use Rattle.control_marks.specs.Marks.{AreChangesMarked, AreKeysMarked, AreTableRowsMarked};
+ghost use Rattle.control_marks.specs.Marks.{Covered, IsChangeMarked, IsCleanItem, IsCleanRoute, IsKeyMarked};
 ghost use Rattle.control_marks.specs.Marks.{IsRowMarked, IsWithin, is_of};
 
 use crate::dirty::Dirty;
@@ -80,7 +80,7 @@ fn mark_subscribed(dirty: &mut Dirty, tables: &VpnTables, address: Addr, instanc
 /// Marks of peers the key of a route that leads on, where there is one.
 fn mark_led(dirty: &mut Dirty, led: Option<Route>)
     ensures within { IsWithin dirty.old dirty.new }
-    ensures marked { dirty.new.all ≡ false → IsLedMarked dirty.new led }
+    ensures marked { dirty.new.all ≡ false → IsKeyMarked dirty.new (key_led led) }
 {
     match led {
         Some(route) => dirty.add_route(VpnKey {
@@ -94,7 +94,7 @@ fn mark_led(dirty: &mut Dirty, led: Option<Route>)
 /// Marks the keys of the one before a change and of the one after it, where they are not one.
 fn mark_led_change(dirty: &mut Dirty, before: Option<Route>, after: Option<Route>)
     ensures within { IsWithin dirty.old dirty.new }
-    ensures marked { AreLedMarked dirty.new before after }
+    ensures marked { AreKeysMarked dirty.new (before ≢ after) (key_led before) (key_led after) }
 {
     if before != after {
         mark_led(dirty, before);

@@ -1,5 +1,5 @@
 -- What is selected, and what leads on under a key, stays where no listed change is one of it.
-use Rattle.std.specs.Prelude.{◌≡◌, ◌≢◌, ◌⊎◌, ◌==◌, List, [], ◌∷◌, Bool, true, false, cond}
+use Rattle.std.specs.Prelude.{◌≡◌, ◌≢◌, ◌⊎◌, ◌==◌, List, [], ◌∷◌, ◌++◌, Bool, true, false, cond}
 use Rattle.std.specs.declared.option.Option.{Option}
 use Rattle.std.specs.declared.option.Option.TheVariants.{Some, None}
 use Rattle.std.specs.List.{AllByRecursion}
@@ -9,7 +9,7 @@ use Rattle.ov_types.specs.Prefix.{Block}
 use Rattle.ov_types.specs.declared.numbers.InstanceId.{InstanceId}
 use Rattle.ov_types.specs.declared.vpn.VpnKey.{VpnKey}
 use Rattle.node_model.specs.Members.{Member}
-use Rattle.node_model.specs.Paths.{Holdings}
+use Rattle.node_model.specs.Paths.{Holdings, Path}
 use Rattle.node_model.specs.Ranks.{instance_in}
 use Rattle.node_model.specs.Reaching.{reoriginated_paths}
 use Rattle.node_model.specs.Tables.{same_prefix}
@@ -20,11 +20,20 @@ use Rattle.vpn_holdings.specs.Gathered.{UsesAreInRange}
 use Rattle.vpn_holdings.specs.Routes.{path_of}
 use Rattle.vpn_holdings.specs.TouchedKeys.{first_keyed, same_key}
 use Rattle.vpn_holdings.specs.declared.routes.Route.{Route}
+use Rattle.vpn_holdings.proofs.Keyed.{first_append}
 use Rattle.vpn_holdings.proofs.LedAt.{led_first}
-use Rattle.vpn_tables.specs.Followed.{HasMoved, IsListed, IsRowChange, followed_at, led_by, led_key, led_of}
+use Rattle.vpn_tables.specs.Followed.{HasMoved, IsListed, IsRowChange, followed_at, key_led, led_by, led_key, led_of}
 use Rattle.vpn_tables.specs.declared.changes.Followed.{Followed}
 use Rattle.vpn_tables.specs.declared.changes.RowChange.{RowChange}
 use Rattle.vpn_tables.proofs.MovedRows.{followed_cases, followed_is, is_followed, path_cases, route_cases}
+
+-- a route that leads on is there, of this key
+abbrev pub IsUnder : VpnKey → Option Route → Type 0
+IsUnder k r = key_led r ≡ Some k
+
+-- the first of a key in two lists, where each has the same first
+pub appended_same : (k : VpnKey) (ps qs ps' qs' : List Path) → first_keyed k ps ≡ first_keyed k ps' → first_keyed k qs ≡ first_keyed k qs' → first_keyed k (ps ++ qs) ≡ first_keyed k (ps' ++ qs')
+appended_same k ps qs ps' qs' e f = first_append k ps qs ∙ (λ n. first_some (e n) (f n)) ∙ sym (first_append k ps' qs')
 
 module _ (h g : Holdings) (cs : List RowChange) (each : AllByRecursion (IsRowChange h g) cs) (every : (i : InstanceId) (q : Block) → HasMoved h g i q → IsListed cs i q) where
   -- a change of the row is listed, with what followed and follows there
@@ -71,19 +80,16 @@ module _ (h g : Holdings) (cs : List RowChange) (each : AllByRecursion (IsRowCha
 
   -- ---- what leads on under a key
   module _ (k : VpnKey) where
-    abbrev pub IsUnder : Option Route → Type 0
-    IsUnder r = (x : Route) × (r ≡ Some x) × (led_key x ≡ k)
-
     key_of : (r : Route) → same_key k (path_of r) ≡ true → led_key r ≡ k
     key_of r t =
         let p = and_parts (r.path.rd.0 == k.rd.0) (same_prefix r.prefix k.prefix) t in
         λ n. record { rd = record { 0 = eqb-true r.path.rd.0 k.rd.0 p.0 n }; prefix = prefix_same r.prefix k.prefix p.1 n }
 
-    nothing_under : (r : Option Route) → (IsUnder r → ⊥) → first_keyed k (led_by r) ≡ None
+    nothing_under : (r : Option Route) → (IsUnder k r → ⊥) → first_keyed k (led_by r) ≡ None
     nothing_under None none = refl
     nothing_under (Some r) none =
         elim (same_key k (path_of r)) as (λ t. same_key k (path_of r) ≡ t → cond t (Some (path_of r)) None ≡ None) [
-          | true ↦ λ t. absurd (none (r, refl, key_of r t))
+          | true ↦ λ t. absurd (none (ap Some (key_of r t)))
           | false ↦ λ _. refl
         ] refl
 
@@ -92,7 +98,7 @@ module _ (h g : Holdings) (cs : List RowChange) (each : AllByRecursion (IsRowCha
     led_is h i q false = (followed_is h i q).led_left
 
     abbrev IsNoKey : Type 0
-    IsNoKey = (c : RowChange) → Member c cs → (b : Bool) → led_of b c.before ≢ led_of b c.after → IsUnder (led_of b c.before) ⊎ IsUnder (led_of b c.after) → ⊥
+    IsNoKey = (c : RowChange) → Member c cs → (b : Bool) → led_of b c.before ≢ led_of b c.after → IsUnder k (led_of b c.before) ⊎ IsUnder k (led_of b c.after) → ⊥
 
     place_same : IsNoKey → (i : InstanceId) (q : Block) (b : Bool) → first_keyed k (led_at h i q b) ≡ first_keyed k (led_at g i q b)
     place_same none i q b =

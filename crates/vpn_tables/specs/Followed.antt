@@ -28,6 +28,9 @@ led_of false f = f.led_left
 abbrev pub led_key : Route → VpnKey
 led_key r = record { rd = r.path.rd; prefix = r.prefix }
 
+abbrev pub key_led : Option Route → Option VpnKey
+key_led r = option_map led_key r
+
 -- the selected path, and the routes that lead the prefix on into the place of a use that the instance is
 pub record IsFollowed (h : Holdings) (i : InstanceId) (q : Block) (f : Followed) : Type 0 where
   pub path : f.path ≡ selected_at h i q

@@ -1,3 +1,4 @@
+use Rattle.vpn_tables.specs.Followed.{key_led}
 use Rattle.control_marks.proofs.Growing.{within_itself, within_then}
 use Rattle.control_marks.proofs.Telling.{both_marked}
 use Rattle.control_marks.proofs.told.mark_led_change.Goals as goal
@@ -7,4 +8,4 @@ returns-then-clause-within c = within_then _ _ _ c.mark_led.ensures.within c.mar
 
 pub returns-then-clause-marked : goal.returns-then-clause-marked
 returns-then-clause-marked c =
-    both_marked c.mark_led.new.dirty c.mark_led-2.new.dirty c.args.before c.args.after c.mark_led.ensures.marked c.mark_led-2.ensures.within c.mark_led-2.ensures.marked
+    both_marked c.mark_led.new.dirty c.mark_led-2.new.dirty _ (key_led c.args.before) (key_led c.args.after) c.mark_led.ensures.marked c.mark_led-2.ensures.within c.mark_led-2.ensures.marked
