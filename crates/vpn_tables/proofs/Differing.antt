@@ -73,9 +73,9 @@ module _ (h g : Holdings) (cs : List RowChange) (each : AllByRecursion (IsRowCha
       elim (change_at i q) as (λ _. selected_at h i q ≡ selected_at g i q) [
         | inl e ↦ ap (λ (f : Followed). f.path) e
         | inr c ↦ elim (path_cases c.change.before.path c.change.after.path) as (λ _. selected_at h i q ≡ selected_at g i q) [
-            | inl e ↦ ap (λ (f : Followed). f.path) (sym c.before) ∙ e ∙ ap (λ (f : Followed). f.path) c.after
-            | inr other ↦ absurd (none c.change c.listed c.instance c.prefix other)
-          ]
+          | inl e ↦ ap (λ (f : Followed). f.path) (sym c.before) ∙ e ∙ ap (λ (f : Followed). f.path) c.after
+          | inr other ↦ absurd (none c.change c.listed c.instance c.prefix other)
+        ]
       ]
 
   -- ---- what leads on under a key
