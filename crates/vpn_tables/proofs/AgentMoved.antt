@@ -167,7 +167,7 @@ module _ (h : Holdings) (session : ℕ) (address : Addr) where
           ∙ sym (ap (λ (o : Option LabelNo). elim o [ Some label ↦ Some (address, label) | None ↦ published_in ts c ]) e))
 
   -- ---- each way
-  pub there : IsMoved h later (λ _. false) Moves
+  there : IsMoved h later (λ _. false) Moves
   there = record {
     asn = refl;
     imported = λ i _. refl;
@@ -186,7 +186,7 @@ module _ (h : Holdings) (session : ℕ) (address : Addr) where
     ];
   }
 
-  pub back : IsMoved later h (λ _. false) Moves
+  back : IsMoved later h (λ _. false) Moves
   back = record {
     asn = refl;
     imported = λ i _. refl;

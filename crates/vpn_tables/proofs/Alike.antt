@@ -51,7 +51,7 @@ pub record IsClean (h : Holdings) (own : InstanceId → Bool) (Moves : InstanceI
       → is_touched h (target_of h.asn j ∷ []) s.chain ≡ false
 
 -- ---- places
-pub at_distance : (s : Side) (i : InstanceId) → is_hop i ≡ true → s.chain.number ≡ use_of i → place_of i ≤ s.chain.services → hop_at s (distance s (place_of i)) ≡ i
+at_distance : (s : Side) (i : InstanceId) → is_hop i ≡ true → s.chain.number ≡ use_of i → place_of i ≤ s.chain.services → hop_at s (distance s (place_of i)) ≡ i
 at_distance s i is number within =
     ap (hop s.chain) (back s.is_right) ∙ (λ x. record { 0 = hop_number i.0 s.chain.number is number x })
   where
@@ -123,7 +123,7 @@ module _ (h g : Holdings) (own : InstanceId → Bool) (Moves : InstanceId → Bl
         let p = from_any (λ (p : Path). is_inside p.prefix q) (received h (hop_at s d)) e in
         any_in (λ (p : Path). is_inside p.prefix q) p.0 (received g (hop_at s d)) (received_there (hop_at s d) (others d w) p.0 (λ j mv. untouched j p.0.prefix mv d w) p.1) p.2
 
-    pub up_there : (q : Block) (d : ℕ) → d ≤ s.chain.services → is_up h s q d ≡ true → is_up g s q d ≡ true
+    up_there : (q : Block) (d : ℕ) → d ≤ s.chain.services → is_up h s q d ≡ true → is_up g s q d ≡ true
     up_there q zero w e = within_there zero q w e
     up_there q (suc d) w e =
         more_left (has_path_within h (hop_at s (suc d)) q) (is_some (publisher h (circuit_at s (suc d))) && is_up h s q d)
@@ -173,7 +173,7 @@ module _ (h g : Holdings) (own : InstanceId → Bool) (Moves : InstanceId → Bl
         only j (inl e) = sym e
         only j (inr e) = absurd e
 
-    pub paths_there : Within g h i q
+    paths_there : Within g h i q
     paths_there p n e =
         elim (in_either p (received h i) (filter (has_target (target_of h.asn i ∷ [])) (reoriginated_paths h)) n) as (λ _. Member p (paths_of g i)) [
           | inl r ↦ in_left p (received g i) (filter (has_target (target_of g.asn i ∷ [])) (reoriginated_paths g))
@@ -184,7 +184,7 @@ module _ (h g : Holdings) (own : InstanceId → Bool) (Moves : InstanceId → Bl
               (in_filter (has_target (target_of g.asn i ∷ [])) p (reoriginated_paths g) (led_there p f.0 f.1 e) (ap (λ a. has_target (target_of a i ∷ []) p) m.asn ∙ f.1))
         ]
 
-    pub up_at_there : (b : Bool) → is_up_at h i q b ≡ true → is_up_at g i q b ≡ true
+    up_at_there : (b : Bool) → is_up_at h i q b ≡ true → is_up_at g i q b ≡ true
     up_at_there b e = at_hop (is_hop i) refl e
       where
         at_subnet : is_hop i ≡ true → (s : Side) → side_at h.feed (use_of i) b ≡ Some s → place_of i ≤ s.chain.services → list_any (same_prefix q) (subnets s) ≡ true

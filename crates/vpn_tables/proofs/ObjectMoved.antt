@@ -1,5 +1,5 @@
 -- Where an object changes, its own instances change alone, and what is published in them.
-use Rattle.std.specs.Prelude.{◌≡◌, ◌≢◌, ◌⊎◌, Ok, Err, OnOk, OnErr, Result, ℕ, ◌≤◌, ◌-◌, List, [], ◌∷◌, map, true, false, cond, ◌==◌, is_some}
+use Rattle.std.specs.Prelude.{◌≡◌, ◌≢◌, ◌⊎◌, Ok, Err, OnOk, OnErr, Result, ℕ, ◌≤◌, List, [], ◌∷◌, true, false, cond, ◌==◌, is_some}
 use Rattle.std.specs.List.{enumerate_from, filter_map, flat_map}
 use Rattle.std.specs.FinMap.{entries}
 use Rattle.std.proofs.lemmas.Bool.{true≢false, eq-eqb}
@@ -47,7 +47,7 @@ use_apart k i place none e =
     true≢false (sym (ap (λ b. cond b (use_of i == use_of i) false) place ∙ eq-eqb (use_of i) (use_of i) refl) ∙ ap (λ (j : LowKey). is_of j i) (sym e) ∙ none)
 
 -- a place of a use is its object's
-pub of_place : (k : LowKey) (u j n : ℕ) → j ≤ 15 → n ≤ 15 → is_of k (hop_instance_of u j) ≡ is_of k (hop_instance_of u n)
+of_place : (k : LowKey) (u j n : ℕ) → j ≤ 15 → n ≤ 15 → is_of k (hop_instance_of u j) ≡ is_of k (hop_instance_of u n)
 of_place (key.ChainUse v) u j n w x =
     ap (λ b. cond b (use_of (hop_instance_of u j) == v) false) (is_hop-hop u j) ∙ ap (λ m. m == v) (use_of-hop u j w)
     ∙ sym (ap (λ b. cond b (use_of (hop_instance_of u n) == v) false) (is_hop-hop u n) ∙ ap (λ m. m == v) (use_of-hop u n x))
@@ -199,7 +199,7 @@ module _ (h : Holdings) (d : Delta LowKey LowValue) (short_h : AreShort h.feed) 
   none_of (key.Attach n) i e = refl
   none_of (key.Acl m n) i e = refl
 
-  pub other_entry : makes_rows k ≡ false → (r : RowKey) → entry_of h r ≡ entry_of later r
+  other_entry : makes_rows k ≡ false → (r : RowKey) → entry_of h r ≡ entry_of later r
   other_entry e r =
       let none : (i : InstanceId) → is_of k i ≡ false = λ i. none_of k i e in
       let c : IsClean h (is_of k) (Moves k h.agents) r.instance r.prefix = record {

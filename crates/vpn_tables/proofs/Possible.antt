@@ -177,7 +177,7 @@ module _ (h : Holdings) (short : AreShort h.feed) (k : LowKey) (i : InstanceId) 
       at_hop false is e = absurd (true≢false (sym e))
 
   -- nothing follows elsewhere
-  pub nothing_elsewhere : (Here → ⊥) → nothing_stored ≡ entry_of h (record { instance = i; prefix = q })
+  nothing_elsewhere : (Here → ⊥) → nothing_stored ≡ entry_of h (record { instance = i; prefix = q })
   nothing_elsewhere none = λ n. record {
     path = sym (no_path (get (table h i) q) refl) n;
     is_up_right = sym (not_true (is_up_at h i q true) (λ e. none (up_here true e))) n;

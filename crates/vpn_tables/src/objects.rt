@@ -236,9 +236,7 @@ fn drop_object(held: &mut VpnHoldings, stored: &mut Stored, of: LowKey) -> Resul
     ensures err { OnErr result (held.new ≡ held.old) }
     ensures memory { OnErr result ⊥ }
 {
-    held.uses_are_short();
     held.set_low(Delta::Drop(of))?;
-    held.uses_are_short();
     refresh_stored(stored, held);
     Ok(())
 }
