@@ -13,4 +13,4 @@ mod stored;
 mod tables;
 
 pub use tables::VpnTables;
-pub use vpn_holdings::{Route, Side, in_order};
+pub use vpn_holdings::{Route, in_order};
