@@ -150,7 +150,7 @@ pub(crate) fn write(stored: &mut Stored, key: RowKey, entry: Entry)
         ≡ (if is_row k key then option_map (λ _. entry) (tree.get row_order stored.old key)
         else tree.get row_order stored.old k) }
 {
-    if stored.contains_key(&key) {
-        let _ = stored.insert(key, entry);
+    if let Some(place) = stored.get_mut(&key) {
+        *place = entry;
     }
 }
