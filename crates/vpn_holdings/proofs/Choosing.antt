@@ -1,30 +1,52 @@
 -- The path that is chosen is the row of the table.
-use Rattle.std.specs.Prelude.{◌≡◌, ◌↔◌, ℕ, List, [], ◌∷◌, get_or, false, Some, None}
+use Rattle.std.specs.Prelude.{◌≡◌, ◌↔◌, ℕ, zero, suc, List, [], ◌∷◌, get_or, false, Some, None, slice_index_or}
 use Rattle.std.specs.declared.cmp.Ordering.{Ordering}
 use Rattle.std.specs.declared.cmp.Ordering.TheVariants.{Less, Equal, Greater}
 use Rattle.std.specs.declared.option.Option.{Option}
+use Rattle.std.specs.List.{slice_get}
 use Rattle.std.specs.Option.{option_map}
 use Rattle.std.specs.Ordering.{nat_cmp, is_lt, ordering_reverse}
 use Rattle.std.specs.Cmp.{IsTotalOrder, on_total}
 use Rattle.std.specs.Cmp.Lexicographic.{slice_cmp, nat_list_cmp_total}
 use Rattle.std.specs.FinMap.{get, nat_cmp-IsAntisymmetric, slice_cmp-IsAntisymmetric}
 use Rattle.std.proofs.lemmas.Bool.{true≢false}
-use Rattle.std.proofs.Common.{refl, sym, ◌∙◌, ap, subst, inl}
+use Rattle.std.proofs.lemmas.Option.{same_Some}
+use Rattle.std.proofs.Common.{refl, sym, ◌∙◌, ap, subst, inl, inr}
 use Rattle.ov_types.specs.Prefix.{Block}
 use Rattle.ov_types.specs.declared.numbers.InstanceId.{InstanceId}
 use Rattle.path_select.specs.NodeModel.Members.{Member}
 use Rattle.path_select.specs.NodeModel.Paths as model
 use Rattle.path_select.specs.NodeModel.Paths.{Holdings}
 use Rattle.path_select.specs.NodeModel.Tables.{of_prefix, paths_of, same_prefix, selected, table}
-use Rattle.path_select.proofs.NodeModel.Members.{from_filter, from_map, in_filter, in_map}
+use Rattle.path_select.proofs.NodeModel.Members.{from_filter, from_map, in_filter, in_map, none_some}
 use Rattle.path_select.proofs.NodeModel.Orders.{prefix_same, same_prefix-from}
 use Rattle.path_select.proofs.NodeModel.Selection.{selected_found, selected_least}
 use Rattle.path_select.specs.declared.selection.Path.{Path}
-use Rattle.path_select.specs.Selection.{is_better, numbers, plain}
+use Rattle.path_select.specs.Selection.{IsFirstOfLeast, is_better, numbers, plain}
 use Rattle.path_select.specs.NodeModel.Tables.{table_row}
 use Rattle.vpn_holdings.specs.At.{IsChosen, paths_at, shown}
 
 -- ---- places and members
+member_at : (xs : List Path) (i : ℕ) (x : Path) → slice_get xs i ≡ Some x → Member x xs
+member_at [] i x e = absurd (none_some x e)
+member_at (y ∷ xs) zero x e = inl (same_Some y x e)
+member_at (y ∷ xs) (suc i) x e = inr (member_at xs i x e)
+
+at_member : (xs : List Path) (x : Path) → Member x xs → (i : ℕ) × (slice_get xs i ≡ Some x)
+at_member [] x m = absurd m
+at_member (y ∷ xs) x (inl e) = (zero, ap Some e)
+at_member (y ∷ xs) x (inr m) = let q = at_member xs x m in (suc q.0, q.1)
+
+index_at : (xs : List Path) (i : ℕ) (x d : Path) → slice_get xs i ≡ Some x → slice_index_or xs i d ≡ x
+index_at [] i x d e = absurd (none_some x e)
+index_at (y ∷ xs) zero x d e = same_Some y x e
+index_at (y ∷ xs) (suc i) x d e = index_at xs i x d e
+
+pub chosen_from : (paths : List Path) (i : ℕ) (d : Path) → IsFirstOfLeast paths i → IsChosen paths (Some (slice_index_or paths i d))
+chosen_from paths i d f =
+    subst (λ (x : Path). IsChosen paths (Some x)) (sym (index_at paths i f.path d f.stands))
+    (member_at paths i f.path f.stands, λ q m. let at = at_member paths q m in f.least at.0 q at.1)
+
 -- ---- paths of which neither is better are one
 abbrev path_cmp : Path → Path → Ordering
 path_cmp a b = slice_cmp nat_cmp (numbers a) (numbers b)

@@ -1,16 +1,28 @@
-//! The path of what was told at a place, where it is imported.
-ghost use Rattle.std.specs.Prelude.{◌≡◌, Some, option_copied};
-ghost use Rattle.vpn_holdings.specs.Indexed.{label_path, path_of_route};
-ghost use Rattle.vpn_holdings.specs.Indexed.{published_at, route_of, route_path};
+//! The paths of an instance to one prefix, of those that it received.
+ghost use Rattle.std.specs.Prelude.{◌≡◌, ◌++◌, [], Some, OnOk, option_copied};
+ghost use Rattle.std.specs.List.{cons_option, filter, filter_map};
+ghost use Rattle.std.specs.BTreeMap.{IsOrdered};
+ghost use Rattle.vpn_holdings.specs.Indexed.{is_label_to, is_route_to, label_order, label_path, path_of_route};
+ghost use Rattle.vpn_holdings.specs.Indexed.{published_at, route_of, route_order, route_path};
 ghost use Rattle.vpn_holdings.specs.Listing.{told_in};
 ghost use Rattle.vpn_holdings.specs.Views.{agent_of};
 
 use crate::holdings::{Agent, VpnHoldings};
 use crate::imports::Imports;
-use crate::places::{LabelAt, RouteAt};
-use ov_types::{Addr, Label, Prefix, UpKey, VpnKey, VpnRoute};
+use crate::places::{LabelAt, Labels, RouteAt, Routes, labels_to, routes_to};
+use ov_types::{Addr, Label, NoMemory, Prefix, UpKey, VpnKey, VpnRoute};
 use path_select::Path;
 use route_targets::{rd, target};
+
+/// Appends a path, where there is one.
+pub(crate) fn keep(paths: &mut Vec<Path>, path: Option<Path>) -> Result<(), NoMemory>
+    ensures { OnOk result (paths.new.items ≡ paths.old.items ++ cons_option path []) }
+{
+    if let Some(path) = path {
+        paths.push(path)?;
+    }
+    Ok(())
+}
 
 impl Agent {
     /// The address and the label under which it publishes a key.
@@ -106,4 +118,42 @@ impl VpnHoldings {
             label,
         })
     }
+}
+
+/// Appends the paths that peers told and that are imported.
+pub(crate) fn push_routes(
+    paths: &mut Vec<Path>,
+    holdings: &VpnHoldings,
+    routes: &Routes,
+    prefix: &Prefix,
+    imports: &Imports<'_>,
+) -> Result<(), NoMemory>
+    ensures ordered { IsOrdered route_order routes.now }
+    ensures paths { OnOk result (paths.new.items ≡ paths.old.items
+        ++ filter_map (route_path holdings.now imports.now)
+        (filter (λ e. is_route_to prefix.now e.0) routes.now.entries)) }
+{
+    for (at, found) in routes_to(routes, prefix) {
+        keep(paths, holdings.route_path(imports, at, found))?;
+    }
+    Ok(())
+}
+
+/// Appends those that agents publish and that are imported.
+pub(crate) fn push_labels(
+    paths: &mut Vec<Path>,
+    holdings: &VpnHoldings,
+    labels: &Labels,
+    prefix: &Prefix,
+    imports: &Imports<'_>,
+) -> Result<(), NoMemory>
+    ensures ordered { IsOrdered label_order labels.now }
+    ensures paths { OnOk result (paths.new.items ≡ paths.old.items
+        ++ filter_map (label_path holdings.now imports.now)
+        (filter (λ e. is_label_to prefix.now e.0) labels.now.entries)) }
+{
+    for (at, found) in labels_to(labels, prefix) {
+        keep(paths, holdings.label_path(imports, at, found))?;
+    }
+    Ok(())
 }

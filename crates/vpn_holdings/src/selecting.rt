@@ -68,8 +68,8 @@ fn best_of_labels(
 }
 
 impl VpnHoldings {
-    /// The path that is selected for a prefix of an instance, where it has one. It looks at what was told with
-    /// this prefix alone, and for a place of a use at what was told within it too. It takes no memory.
+    /// The path that is selected for a prefix of an instance, where it has one. It looks at what `paths_at` does, and
+    /// takes no memory.
     pub fn selected(&self, i: InstanceId, prefix: &Prefix) -> Option<Path>
         ensures { result ≡ selected_at self.now i prefix.now }
     {

@@ -15,7 +15,10 @@ mod Possible
 mod TableListed
 -- What is passed on of `vpn_holdings`, so that the crates above need not list it.
 pub use Rattle.vpn_holdings.proofs.AgentsIndexed
+pub use Rattle.vpn_holdings.proofs.Choosing
 pub use Rattle.vpn_holdings.proofs.Images
 pub use Rattle.vpn_holdings.proofs.Keyed
+pub use Rattle.vpn_holdings.proofs.Leads
+pub use Rattle.vpn_holdings.proofs.Uses
 pub use Rattle.vpn_holdings.proofs.NodeModel
 pub use Rattle.vpn_holdings.proofs.ControlSilentAgentLaws

@@ -7,6 +7,7 @@ pub use Rattle.vpn_holdings.specs.Answers
 pub use Rattle.vpn_holdings.specs.At
 pub use Rattle.vpn_holdings.specs.Changes
 pub use Rattle.vpn_holdings.specs.Gathered
+pub use Rattle.vpn_holdings.specs.Indexed
 pub use Rattle.vpn_holdings.specs.Leading
 pub use Rattle.vpn_holdings.specs.Listing
 pub use Rattle.vpn_holdings.specs.Moved

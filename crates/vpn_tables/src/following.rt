@@ -4,17 +4,54 @@ ghost use Rattle.std.specs.BTreeMap as tree;
 ghost use Rattle.std.specs.List.{list_any};
 ghost use Rattle.std.specs.Option.{option_map};
 ghost use Rattle.node_model.specs.Paths.{Holdings};
+ghost use Rattle.vpn_holdings.specs.At.{IsChosen, selected_at};
 ghost use Rattle.vpn_tables.specs.Stored.{AreStored, entry_of, is_row, key_at, row_order};
 ghost use Rattle.vpn_tables.specs.declared.stored.RowKey.{RowKey as RowKeyOf};
 
 use crate::stored::{Entry, RowKey, Stored, drop_empty, write};
 use ov_types::{InstanceId, NoMemory, Prefix};
-use path_select::Steps;
+use path_select::{Path, Steps, select_counted};
 use std::alloc::Global;
 use std::sync::ledger::Ledger;
 use vpn_holdings::VpnHoldings;
 
-/// What follows at a key. It takes no memory.
+/// The path that is used. It takes one step.
+fn choose<L: Ledger>(paths: &[Path], steps: &mut Steps<L>) -> Option<Path>
+    ensures chosen { IsChosen paths.now result }
+    ensures step { steps.new ≡ steps.old + 1 }
+{
+    match select_counted(paths, steps) {
+        Some(place) => Some(paths[place]),
+        None => None,
+    }
+}
+
+/// The selected path of a key, by at most one step. Where memory is wanting for its paths, it is selected by a walk that
+/// needs none.
+fn select_at<L: Ledger>(held: &VpnHoldings, key: RowKey, steps: &mut Steps<L>) -> Option<Path>
+    ensures path { result ≡ selected_at held.now key.instance key.prefix }
+    ensures steps { steps.new ≤ steps.old + 1 }
+{
+    match held.paths_at(key.instance, &key.prefix) {
+        Ok(paths) => choose(paths.as_slice(), steps),
+        Err(NoMemory) => held.selected(key.instance, &key.prefix),
+    }
+}
+
+/// What follows at a key, by at most one step.
+fn follow<L: Ledger>(held: &VpnHoldings, key: RowKey, steps: &mut Steps<L>) -> Entry
+    ensures entry { result ≡ entry_of held.now key }
+    ensures steps { steps.new ≤ steps.old + 1 }
+{
+    let path = select_at(held, key, steps);
+    Entry {
+        path,
+        is_up_right: held.up(key.instance, &key.prefix, true),
+        is_up_left: held.up(key.instance, &key.prefix, false),
+    }
+}
+
+/// The same, uncounted and by a walk that takes no memory.
 pub(crate) fn follows(held: &VpnHoldings, key: RowKey) -> Entry
     ensures { result ≡ entry_of held.now key }
 {
@@ -37,8 +74,7 @@ fn refresh_one<L: Ledger>(
         else tree.get row_order stored.old k) }
     ensures steps { steps.new ≤ steps.old + 1 }
 {
-    steps.tick();
-    let entry = follows(held, *key);
+    let entry = follow(held, *key, steps);
     write(stored, *key, entry);
 }
 

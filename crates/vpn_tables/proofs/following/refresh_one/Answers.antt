@@ -24,4 +24,4 @@ follows_written old new h key e is put k =
     (λ k same. λ n. option_map (λ _. (is ∙ ap (entry_of h) same) n) (tree.get row_order old (same n))) (λ k. refl) k
 
 pub returns-clause-entries : goal.returns-clause-entries
-returns-clause-entries g c = follows_written c.args.stored.now c.write.new.stored c.args.held.now c.args.key.now c.follows-entry.result c.follows-entry.ensures c.write.ensures
+returns-clause-entries g c = follows_written c.args.stored.now c.write.new.stored c.args.held.now c.args.key.now c.follow-entry.result c.follow-entry.ensures.entry c.write.ensures
