@@ -91,17 +91,6 @@ impl Dirty {
         self.addresses.contains(&address)
     }
 
-    /// Whether nothing is marked of peers. It takes no memory.
-    pub fn is_clean(&self) -> bool
-        ensures all { result ≡ true → self.now.all ≡ false }
-        ensures clean { result ≡ true → (k : Key) → IsCleanRoute self.now k }
-    {
-        if self.all {
-            return false;
-        }
-        self.routes.iter().len() == 0
-    }
-
     /// Whether nothing is marked of the agents at an address. It takes no memory.
     pub fn is_clean_at(&self, address: Addr) -> bool
         ensures all { result ≡ true → self.now.all ≡ false }

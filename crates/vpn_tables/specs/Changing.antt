@@ -27,10 +27,6 @@ rows_by_agent h session =
     flat_map (λ k. rows_by_key h (targets_by_publication h session (Drop k)) k) (keys_told (told_in h.agents session))
 
 -- ---- an instance or a use
--- the object by which an instance is known, and by which it imports
-abbrev pub object_of : InstanceId → LowKey
-object_of i = if is_hop i then key.ChainUse (use_of i) else key.Instance i.0
-
 -- the instances of an object: of a use as many places as one may have. There are 3072 numbers of uses
 abbrev pub instances_of : LowKey → List InstanceId
 instances_of (key.Instance n) = record { 0 = n } ∷ []

@@ -16,4 +16,4 @@ mod tables;
 pub use changes::{Followed, RowChange};
 pub use path_select::Steps;
 pub use tables::VpnTables;
-pub use vpn_holdings::{Route, Side, in_order};
+pub use vpn_holdings::{Route, in_order};

@@ -13,7 +13,6 @@ ghost use Rattle.vpn_tables.specs.Changing.{instances_of, is_of, makes_rows, own
 ghost use Rattle.vpn_tables.specs.Stored.{AreStored, entry_of, key_at};
 ghost use Rattle.vpn_tables.specs.declared.stored.RowKey.{RowKey as RowKeyOf};
 
-use crate::agents::push_rows;
 use crate::dropping::refresh_stored;
 use crate::following::{keys_at, refresh};
 use crate::stored::{RowKey, Stored, drop_empty, make_places};
@@ -77,17 +76,8 @@ fn push_subnets(subnets: &mut Vec<Prefix>, of: &LowKey, value: &LowValue) -> Res
         ..
     } = value
     {
-        push_prefixes(subnets, left_prefixes.as_slice())?;
-        push_prefixes(subnets, right_prefixes.as_slice())?;
-    }
-    Ok(())
-}
-
-fn push_prefixes(prefixes: &mut Vec<Prefix>, more: &[Prefix]) -> Result<(), NoMemory>
-    ensures { OnOk result (prefixes.new.items ≡ prefixes.old.items ++ more.now) }
-{
-    for prefix in more {
-        prefixes.push(*prefix)?;
+        subnets.extend_from_slice(left_prefixes.as_slice())?;
+        subnets.extend_from_slice(right_prefixes.as_slice())?;
     }
     Ok(())
 }
@@ -151,7 +141,8 @@ fn push_published(
     }
     let targets = [target(held.asn(), instance)];
     let touched = held.touched_rows(&targets, prefix)?;
-    push_rows(rows, touched.as_slice())
+    rows.extend_from_slice(touched.as_slice())?;
+    Ok(())
 }
 
 /// Appends those that the publications in instances of an object touch.
