@@ -1,6 +1,6 @@
 //! Changes that peers and agents told.
 ghost use Rattle.std.specs.List.{AllByRecursion};
-ghost use Rattle.std.specs.Prelude.{◌≡◌, ◌≢◌, ◌<◌, true, false, is_some, Some, IfOk, IfSome, OnOk, OnErr};
+ghost use Rattle.std.specs.Prelude.{◌≡◌, ◌≢◌, ◌<◌, true, false, is_some, None, Some, IfOk, IfSome, OnOk, OnErr};
 ghost use Rattle.ov_sync.specs.Keyed.{key_of};
 ghost use Rattle.ov_types.specs.Prefix.{Block};
 ghost use Rattle.ov_types.specs.declared.keys.DownKey.TheVariants as down;
@@ -16,8 +16,9 @@ ghost use Rattle.vpn_tables.specs.Followed.{HasMoved, IsListed, IsRowChange, key
 ghost use Rattle.vpn_tables.specs.TouchedKeys.{key_published};
 ghost use Rattle.control_change_laws.specs.Here.{IsRowOf};
 ghost use Rattle.control_marks.specs.Marks.{AreChangesMarked, AreKeysMarked, AreTableRowsMarked};
-ghost use Rattle.control_marks.specs.Marks.{Covered, IsChangeMarked, IsCleanItem, IsCleanRoute, IsKeyMarked};
-ghost use Rattle.control_marks.specs.Marks.{IsRowMarked, IsWithin, is_of};
+ghost use Rattle.control_marks.specs.Marks.{Covered, IsChangeMarked, IsCleanItem, IsCleanRoute, IsEither, IsKey};
+ghost use Rattle.control_marks.specs.Marks.{IsKeyMarked, IsLedMoved, IsOfLed, IsOfRow, IsRowMarked, IsRowMoved};
+ghost use Rattle.control_marks.specs.Marks.{IsWithin, MarksByRoute, MarksOnly, is_of, no_item, no_route};
 
 use crate::dirty::Dirty;
 use crate::whom::Whom;
@@ -81,6 +82,7 @@ fn mark_subscribed(dirty: &mut Dirty, tables: &VpnTables, address: Addr, instanc
 fn mark_led(dirty: &mut Dirty, led: Option<Route>)
     ensures within { IsWithin dirty.old dirty.new }
     ensures marked { dirty.new.all ≡ false → IsKeyMarked dirty.new (key_led led) }
+    ensures only { MarksOnly (IsKey (key_led led)) no_item dirty.old dirty.new }
 {
     match led {
         Some(route) => dirty.add_route(VpnKey {
@@ -95,6 +97,7 @@ fn mark_led(dirty: &mut Dirty, led: Option<Route>)
 fn mark_led_change(dirty: &mut Dirty, before: Option<Route>, after: Option<Route>)
     ensures within { IsWithin dirty.old dirty.new }
     ensures marked { AreKeysMarked dirty.new (before ≢ after) (key_led before) (key_led after) }
+    ensures only { MarksOnly (IsEither (before ≢ after) (key_led before) (key_led after)) no_item dirty.old dirty.new }
 {
     if before != after {
         mark_led(dirty, before);
@@ -106,6 +109,7 @@ fn mark_led_change(dirty: &mut Dirty, before: Option<Route>, after: Option<Route
 fn mark_row(dirty: &mut Dirty, change: &RowChange)
     ensures within { IsWithin dirty.old dirty.new }
     ensures marked { IsRowMarked dirty.new change.now }
+    ensures only { MarksOnly no_route (IsRowMoved change.now) dirty.old dirty.new }
 {
     if change.before.path != change.after.path {
         dirty.add_item(
@@ -119,6 +123,7 @@ fn mark_row(dirty: &mut Dirty, change: &RowChange)
 fn mark_change(dirty: &mut Dirty, change: &RowChange)
     ensures within { IsWithin dirty.old dirty.new }
     ensures marked { IsChangeMarked dirty.new change.now }
+    ensures only { MarksOnly (IsLedMoved change.now) (IsRowMoved change.now) dirty.old dirty.new }
 {
     mark_row(dirty, change);
     mark_led_change(dirty, change.before.led_right, change.after.led_right);
@@ -128,6 +133,7 @@ fn mark_change(dirty: &mut Dirty, change: &RowChange)
 fn mark_changes(dirty: &mut Dirty, changes: &[RowChange])
     ensures within { IsWithin dirty.old dirty.new }
     ensures marked { AreChangesMarked dirty.new changes.now }
+    ensures only { MarksOnly (IsOfLed changes.now) (IsOfRow changes.now) dirty.old dirty.new }
 {
     for change in changes {
         mark_change(dirty, change);
@@ -139,6 +145,9 @@ fn mark_known(dirty: &mut Dirty, changes: Option<Vec<RowChange>>)
     ensures within { IsWithin dirty.old dirty.new }
     ensures marked { IfSome changes (λ rows. AreChangesMarked dirty.new rows.items) }
     ensures all { dirty.new.all ≡ false → is_some changes ≡ true }
+    ensures only { IfSome changes (λ rows.
+        MarksOnly (IsOfLed rows.items) (IsOfRow rows.items) dirty.old dirty.new) }
+    ensures none { changes ≡ None → dirty.new ≡ record dirty.old { all = true } }
 {
     match changes {
         Some(rows) => mark_changes(dirty, &rows),
@@ -243,6 +252,7 @@ impl Dirty {
         ensures err { OnErr result (tables.new ≡ tables.old) }
         ensures within { IsWithin self.old self.new }
         ensures covers { Covered self.old self.new tables.old tables.new }
+        ensures only { MarksByRoute (key_of delta) tables.old tables.new self.old self.new }
     {
         tables.uses_are_in_range();
         self.add_route(key_of(&delta));
