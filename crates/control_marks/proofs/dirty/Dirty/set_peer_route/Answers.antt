@@ -1,7 +1,16 @@
+use Rattle.std.proofs.Common.{◌≡◌, subst}
+use Rattle.ov_sync.specs.Keyed.{key_of}
+use Rattle.ov_types.specs.declared.vpn.VpnKey.{VpnKey}
+use Rattle.vpn_tables.specs.NodeModel.Keys.{Vpn}
+use Rattle.control_marks.specs.Marks.{Marks, MarksOnly, no_item}
 use Rattle.control_marks.proofs.Growing.{within_then}
 use Rattle.control_marks.proofs.Marking.{covers_itself}
+use Rattle.control_marks.proofs.Only.{known_only, own_only}
 use Rattle.control_marks.proofs.Telling.{route_covered}
 use Rattle.control_marks.proofs.dirty.Dirty.set_peer_route.Goals as goal
+
+abbrev IsMarkedOnly : Marks → Marks → VpnKey → Type 0
+IsMarkedOnly d d' own = MarksOnly (λ k. k ≡ Vpn own) no_item d d'
 
 pub returns-in_err-changes-clause-covers : goal.returns-in_err-changes-clause-covers
 returns-in_err-changes-clause-covers c = λ _.
@@ -14,3 +23,12 @@ pub returns-clause-covers : goal.returns-clause-covers
 returns-clause-covers c = λ all.
     route_covered (λ v. v.items) c.args.self.now c.mark_known.new.dirty c.args.tables.now c.args.session all (within_then _ _ _ c.add_route.ensures.within c.mark_known.ensures.within) c.uses_are_in_range.ensures
     c.args.delta c.change_route.new.tables c.in_ok-changes.ensures.ok _ (c.mark_known.ensures.all all) c.in_ok-changes.ensures.each c.in_ok-changes.ensures.every c.mark_known.ensures.marked
+
+pub returns-in_err-changes-clause-only : goal.returns-in_err-changes-clause-only
+returns-in_err-changes-clause-only c =
+    own_only (key_of c.args.delta) c.args.tables.now c.change_route.new.tables c.args.self.now c.add_route.new.self (subst (IsMarkedOnly c.args.self.now c.add_route.new.self) c.key_of.ensures c.add_route.ensures.only)
+
+pub returns-clause-only : goal.returns-clause-only
+returns-clause-only c =
+    known_only (key_of c.args.delta) c.args.tables.now c.change_route.new.tables (λ v. v.items) c.args.self.now c.add_route.new.self c.mark_known.new.dirty
+    (subst (IsMarkedOnly c.args.self.now c.add_route.new.self) c.key_of.ensures c.add_route.ensures.only) _ c.in_ok-changes.ensures.each c.mark_known.ensures.only c.mark_known.ensures.none
