@@ -23,7 +23,7 @@ loop-change-preserved c =
     }
   where
     of_one : (d d' : Marks) (x : RowChange) → Member x c.args.changes.now → MarksOnly (IsLedMoved x) (IsRowMoved x) d d' → MarksOnly (IsOfLed c.args.changes.now) (IsOfRow c.args.changes.now) d d'
-    of_one d d' x m o = only_more _ _ (IsLedMoved x) (IsRowMoved x) (λ k e. (x, m, e)) (λ a k e. (x, m, e)) d d' o
+    of_one d d' x m o = only_more _ _ (IsLedMoved x) (IsRowMoved x) (λ k e. (x, (m, e))) (λ a k e. (x, (m, e))) d d' o
 
 pub returns-clause-marked : goal.returns-clause-marked
 returns-clause-marked c =
