@@ -1,4 +1,4 @@
-use Rattle.std.proofs.Common.{◌≢◌, inl, inr}
+use Rattle.std.proofs.Common.{rules, ◌≢◌, inl, inr}
 use Rattle.vpn_tables.specs.Followed.{key_led}
 use Rattle.control_marks.specs.Marks.{IsEither, IsKey, no_item}
 use Rattle.control_marks.proofs.Growing.{within_itself, within_then}
@@ -17,10 +17,11 @@ pub returns-then-ne-clause-only : goal.returns-then-ne-clause-only
 returns-then-ne-clause-only c =
     let before = key_led c.args.before in
     let after = key_led c.args.after in
+    let differs : c.args.before ≢ c.args.after = search rules in
     let P = IsEither (c.args.before ≢ c.args.after) before after in
     only_then P no_item c.args.dirty.now c.mark_led.new.dirty c.mark_led-then-ne.new.dirty
-    (only_more P no_item (IsKey before) no_item (λ k e. (?, inl e)) (λ a k n. n) _ _ c.mark_led.ensures.only)
-    (only_more P no_item (IsKey after) no_item (λ k e. (?, inr e)) (λ a k n. n) _ _ c.mark_led-then-ne.ensures.only)
+    (only_more P no_item (IsKey before) no_item (λ k e. (differs, inl e)) (λ a k n. n) _ _ c.mark_led.ensures.only)
+    (only_more P no_item (IsKey after) no_item (λ k e. (differs, inr e)) (λ a k n. n) _ _ c.mark_led-then-ne.ensures.only)
 
 pub returns-else-ne-clause-only : goal.returns-else-ne-clause-only
 returns-else-ne-clause-only c = only_itself (IsEither (c.args.before ≢ c.args.after) (key_led c.args.before) (key_led c.args.after)) no_item c.args.dirty.now
