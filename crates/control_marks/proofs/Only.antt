@@ -100,7 +100,7 @@ module _ (h g : Holdings) (cs : List RowChange) (each : AllByRecursion (IsRowCha
 -- ---- of a route of a peer
 module _ (own : VpnKey) (h g : Holdings) where
   pub own_only : (m n : Marks) → MarksOnly (λ k. k ≡ Vpn own) no_item m n → MarksByRoute own h g m n
-  own_only m n o = only_more _ _ _ _ (λ k e. inl e) (λ a k n. absurd n) m n o
+  own_only m n o = only_more _ _ (λ k. k ≡ Vpn own) no_item (λ k e. inl e) (λ a k n. absurd n) m n o
 
   pub known_only : {V : Type 0} (items : V → List RowChange) (m n m' : Marks) → MarksOnly (λ k. k ≡ Vpn own) no_item m n → (changes : Option V) → IfSome changes (λ rows. AllByRecursion (IsRowChange h g) (items rows))
       → IfSome changes (λ rows. MarksOnly (IsOfLed (items rows)) (IsOfRow (items rows)) n m') → (changes ≡ None → m' ≡ record n { all = true }) → MarksByRoute own h g m m'
