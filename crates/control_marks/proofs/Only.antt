@@ -1,11 +1,13 @@
 -- Marks that are no more than what is said.
-use Rattle.std.specs.Prelude.{◌≡◌, ◌≢◌, ◌⊎◌, ◌<◌, ℕ, zero, suc, List, [], ◌∷◌, map, length, get_or, IfSome, Bool, true, false, cond}
+use Rattle.std.specs.Prelude.{◌≡◌, ◌≢◌, ◌⊎◌, ◌<◌, ℕ, zero, suc, List, [], ◌∷◌, map, length, get_or, IfSome, Bool, true, false, cond, not, ◌==◌}
 use Rattle.std.specs.declared.option.Option.{Option}
 use Rattle.std.specs.declared.option.Option.TheVariants.{Some, None}
 use Rattle.std.specs.Ordering.{eq_by_cmp}
 use Rattle.std.specs.Cmp.{Equal-is}
 use Rattle.std.specs.FinMap.{get, insert}
 use Rattle.std.specs.List.{AllByRecursion}
+use Rattle.std.specs.Option.{option_eq}
+use Rattle.std.proofs.lemmas.Bool.{eq-eqb, true≢false}
 use Rattle.std.proofs.Common.{refl, sym, ◌∙◌, ap, subst, inl, inr, arith}
 use Rattle.ov_sync.specs.Keyed.{map_of}
 use Rattle.ov_types.specs.declared.keys.DownKey.{DownKey}
@@ -65,6 +67,17 @@ only_put d items key whom put = record {
           | true ↦ λ e. absurd (none (sym is ∙ ap of_down (down_exact x key ((Equal-is (down_order x key)).0 e))))
           | false ↦ λ _. clean.1 x is
         ] refl
+
+-- ---- of two that a comparison tells apart
+pub itself : (n : ℕ) → (n == n) ≡ true
+itself n = eq-eqb n n refl
+
+pub no_other : {X : Type 0} (E : X → X → Bool) (a b : Option X) → true ≡ not (option_eq E a b) → ((x : X) → E x x ≡ true) → a ≢ b
+no_other {X} E a b differs own e = true≢false (differs ∙ ap (λ (o : Option X). not (option_eq E a o)) (sym e) ∙ ap not (alike a))
+  where
+    alike : (o : Option X) → option_eq E o o ≡ true
+    alike None = refl
+    alike (Some x) = own x
 
 -- ---- of some row changes
 pub member_at : {X : Type 0} (xs : List X) (i : ℕ) (d : X) → i < length xs → Member (get_or xs i d) xs
