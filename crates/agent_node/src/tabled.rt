@@ -4,7 +4,6 @@ ghost use Rattle.std.specs.List.{All};
 ghost use Rattle.ov_types.specs.Access.{verdict};
 ghost use Rattle.route_targets.specs.Forwarding.{attached, looked_up};
 ghost use Rattle.packet_trace.specs.Circuits.{IsOfAUse};
-ghost use Rattle.node_core.specs.Plans.{ArePlans};
 ghost use Rattle.node_core.specs.NodeModel.Agent.{Holdings, is_needed, rows as rows_of};
 ghost use Rattle.node_laws.specs.Stepped.{AreTold};
 ghost use Rattle.flow_acl.specs.Flows.{AreOf};

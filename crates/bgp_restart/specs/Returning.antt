@@ -31,7 +31,7 @@ pub record Returns (events : List RestartEvent) : Type 0 where
 abbrev pub NotMarked : List RestartEvent → Type 0
 NotMarked events = list_any is_mark (since_opened events) ≡ false
 
--- it was marked when each key that had a route before was put
+-- the end of the first routes was marked when each key that had a route before was put
 pub record MarkedAfterAll (events : List RestartEvent) : Type 0 where
   pub later : List RestartEvent
   pub mark : RestartEvent

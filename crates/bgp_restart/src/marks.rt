@@ -1,5 +1,5 @@
 //! What a peer says of restarting.
-ghost use Rattle.std.specs.Prelude.{◌≡◌, ◌≤◌, ◌∷◌, ◌*◌, ◌+◌, [], Decides, drop, length, option_copied, true};
+ghost use Rattle.std.specs.Prelude.{◌≡◌, ◌≤◌, ◌∷◌, ◌*◌, ◌+◌, Decides, drop, length, option_copied, true};
 ghost use Rattle.std.specs.List.{list_any};
 ghost use Rattle.bgp_wire.specs.Opens.{capabilities_of};
 ghost use Rattle.bgp_vpn.specs.Updates.{parts_of};

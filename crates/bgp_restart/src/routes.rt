@@ -44,7 +44,7 @@ fn key_of(change: &Delta<VpnKey, VpnRoute>) -> &VpnKey
 impl Routes {
     ghost use Rattle.std.specs.Prelude.{map};
 
-    /// It takes no memory.
+    /// Holds no route. No memory is taken.
     pub(crate) fn new(alloc: Global) -> Routes
         ensures { result ≡ [] }
     {

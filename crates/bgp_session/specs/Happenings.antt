@@ -90,7 +90,7 @@ abbrev pub wide_by : Came → Bool → Bool
 wide_by (RightOpen wide) before = wide
 wide_by _ before = before
 
--- and it says so until the session is over
+-- how a session reads: as the last right OPEN says, until the session is over
 abbrev pub wide_in : State → Came → Bool → Bool
 wide_in Idle came before = false
 wide_in _ came before = wide_by came before

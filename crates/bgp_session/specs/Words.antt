@@ -29,21 +29,21 @@ abbrev in_idle : Came → Step
 in_idle Opened = (OpenSent, Sends Hello)
 in_idle _ = (Idle, Passes)
 
--- then it waits for a right OPEN, which it answers by a KEEPALIVE
+-- a session that sent its OPEN waits for a right OPEN, which it answers by a KEEPALIVE
 abbrev in_open_sent : Came → Step
 in_open_sent Opened = (OpenSent, Passes)
 in_open_sent (RightOpen wide) = (OpenConfirm, Sends Keepalive)
 in_open_sent (WrongUpdate f) = does_not_belong
 in_open_sent came = ends came
 
--- then for a KEEPALIVE, at which it comes up
+-- a session that answered the OPEN waits for a KEEPALIVE, at which it comes up
 abbrev in_open_confirm : Came → Step
 in_open_confirm Opened = (OpenConfirm, Passes)
 in_open_confirm KeepaliveCame = (Established, ComesUp)
 in_open_confirm (WrongUpdate f) = does_not_belong
 in_open_confirm came = ends came
 
--- then it takes KEEPALIVEs and right UPDATEs; an OPEN, right or wrong, does not belong here
+-- a session that is up takes KEEPALIVEs and right UPDATEs; an OPEN, right or wrong, does not belong here
 abbrev in_established : Came → Step
 in_established Opened = (Established, Passes)
 in_established KeepaliveCame = (Established, Passes)

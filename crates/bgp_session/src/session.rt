@@ -30,7 +30,7 @@ impl Input {
         }
     }
 
-    /// How a session reads after it: as a right OPEN says, and else as before.
+    /// How a session reads after an input: as a right OPEN says, and else as before.
     fn wide_by(&self, before: bool) -> bool
         ensures { result ≡ wide_by (came_of self.now) before }
     {

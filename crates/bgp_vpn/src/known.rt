@@ -13,12 +13,12 @@ pub(crate) const LOCAL_PREF: u8 = 5;
 
 pub(crate) const ATOMIC_AGGREGATE: u8 = 6;
 
-/// Those of routes of other families (RFC 4760, sections 3 and 4).
+/// The types of the attributes that carry routes of other families (RFC 4760, sections 3 and 4).
 pub(crate) const MP_REACH_NLRI: u8 = 14;
 
 pub(crate) const MP_UNREACH_NLRI: u8 = 15;
 
-/// That of extended communities, of which route targets are some (RFC 4360, section 2).
+/// The type of the attribute of extended communities, of which route targets are some (RFC 4360, section 2).
 pub(crate) const EXTENDED_COMMUNITIES: u8 = 16;
 
 /// The flags of an attribute that say whether it is known to all, and whether it is passed on (RFC 4271, section 4.3).

@@ -4,7 +4,7 @@ ghost use Rattle.bgp_vpn.specs.Pieces.{octets_for, are_prefixes, are_segments};
 
 use crate::octets::octet_at;
 
-/// How many octets hold so many bits.
+/// How many octets hold a number of bits.
 pub(crate) fn octets_for(bits: u8) -> usize
     ensures { result ≡ octets_for bits }
 {

@@ -22,7 +22,7 @@ spelling (Updates parts) = framed Update (update_octets parts)
 spelling (Notifies code subcode) = framed Notification (code ∷ subcode ∷ [])
 spelling KeepsAlive = framed Keepalive []
 
--- its spelling, whatever follows, is read as that message, and no octet more
+-- the spelling of a message, whatever follows, is read as that message, and no octet more
 abbrev pub IsReadAgain : Content → Type 0
 IsReadAgain content = (more : List ℕ) → BeginsWith (spelling content ++ more) content (length (spelling content))
 

@@ -18,7 +18,7 @@ use Rattle.compile_answers.specs.declared.unfit.Reception.{Reception}
 use Rattle.compile_answers.specs.declared.unfit.Reception.TheVariants.{Good, NotJson, BadDocument, Refused}
 use Rattle.compile_answers.specs.declared.unfit.Unfit.{Unfit}
 use Rattle.compile_answers.specs.declared.unfit.Unfit.TheVariants as unfit
-use Rattle.ov_json.specs.Json.{json_of}
+use Rattle.ov_io.specs.Json.{json_of}
 use Rattle.compile_answers.specs.Lines.{compile_text}
 use Rattle.compile_answers.specs.Outcomes.{reach_text}
 use Rattle.compile_answers.specs.Spreads.{scale_text}

@@ -2,11 +2,11 @@
 ghost use Rattle.std.specs.Prelude.{◌≡◌, Result, Ok, IfOk, IfErr};
 ghost use Rattle.serde_json.specs.Data.{Data};
 ghost use Rattle.serde_json.specs.View.{view};
-ghost use Rattle.ov_json.specs.Json.{json_of};
+ghost use Rattle.ov_io.specs.Json.{json_of};
 ghost use Rattle.compile_answers.specs.Answers.{AreDocument, DocumentAnswer, IsUnfit, taken_from};
 
 use crate::unfit::Unfit;
-use ov_json::value_of;
+use ov_io::value_of;
 use serde_json::Value;
 use std::alloc::Global;
 

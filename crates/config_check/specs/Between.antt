@@ -7,7 +7,7 @@ use Rattle.ov_types.specs.First.{same_name}
 use Rattle.policy_rules.specs.Related.{attaches}
 use Rattle.policy_rules.specs.Wanted.{leads_between}
 
--- of the policies that one network attaches, another attaches this, and it has such a rule
+-- a network attaches this policy too, and the policy has a rule that leads another network to it
 abbrev pub also_leads : Network → Network → Policy → Bool
 also_leads a b p = attaches b p && list_any (leads_between a b) p.rules
 

@@ -38,7 +38,7 @@ abbrev pub limit_unless : LimitKind → Bool → Option Refusal
 limit_unless what true = None
 limit_unless what false = Some (Limit what)
 
--- of all there is
+-- the first count of all there is that is outside its limits
 abbrev pub broken_count : Topology → Config → Option Refusal
 broken_count t c =
     limit_unless Counted.Controllers (nat_le (length t.controllers) 8)
@@ -49,7 +49,7 @@ broken_count t c =
     <|> (limit_unless Counted.Services (nat_le (length c.services) 128)
     <|> limit_unless Counted.Chains (nat_le (length c.chains) 128))))))
 
--- of what one object has
+-- the first count of what one object has that is outside its limits
 abbrev pub broken_part : Config → Option Refusal
 broken_part c =
     limit_unless Counted.Subnets (list_all (λ n. nat_le (length n.subnets) 4) c.networks)

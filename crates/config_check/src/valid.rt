@@ -63,7 +63,7 @@ impl Valid {
         &self.config
     }
 
-    /// Another of the same, which need not be checked.
+    /// A copy of a valid topology and configuration, which need not be checked.
     pub fn copy(&self) -> Result<Valid, NoMemory>
         ensures { IfOk result (λ copy. copy ≡ self.now) }
     {

@@ -106,7 +106,7 @@ fault_at path what = record { path = path; kind = what }
 abbrev pub is_among : List (List ℕ) → List ℕ → Bool
 is_among texts text = list_any (λ x. pointwise nat_eq text x) texts
 
--- another text than these is out of range, at its own path
+-- a text that is none of these is out of range, at its own path
 abbrev pub OtherTextIsRange : {A : Type 0} → Reads A → (List ℕ → Bool) → Type 0
 OtherTextIsRange reads is_one = (path text : List ℕ) → is_one text ≡ false
     → reads path (string text) ≡ Err (fault_at path Range)
@@ -115,7 +115,7 @@ OtherTextIsRange reads is_one = (path text : List ℕ) → is_one text ≡ false
 abbrev pub OtherValueIsKind : {A : Type 0} → Reads A → Type 0
 OtherValueIsKind reads = (path : List ℕ) (d : Data) → as_str d ≡ None → reads path d ≡ Err (fault_at path Kind)
 
--- another action than the three is out of range
+-- an action other than the three is out of range
 abbrev pub OtherActionIsRange : Type 0
 OtherActionIsRange = (path text : List ℕ) (d : Data) → get (codes "action") d ≡ Some (string text)
     → is_among (codes "pass" ∷ codes "deny" ∷ codes "chain" ∷ []) text ≡ false

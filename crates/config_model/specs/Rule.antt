@@ -84,7 +84,7 @@ abbrev pub rule_members : List (List ℕ)
 rule_members = codes "direction" ∷ codes "source" ∷ codes "destination" ∷ codes "protocol" ∷ codes "source_ports"
     ∷ codes "destination_ports" ∷ codes "action" ∷ []
 
--- those that only a rule with the action `chain` has
+-- the members that only a rule with the action `chain` has
 abbrev pub chain_members : List (List ℕ)
 chain_members = codes "chain" ∷ codes "use" ∷ []
 

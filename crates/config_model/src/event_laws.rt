@@ -44,7 +44,7 @@ pub fn other_words_are_unknown()
         ∷ codes "node" ∷ []) }
 {}
 
-/// Another text than an event's is out of range; what is neither text nor object is of another kind.
+/// A text that is not an event's is out of range; what is neither text nor object is of another kind.
 pub fn other_values_are_no_events()
     ensures text { OtherTextIsRange event_at (is_among (codes "round" ∷ codes "settle" ∷ [])) }
     ensures event { NoObjectIsKind event_at }

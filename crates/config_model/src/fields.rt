@@ -1,5 +1,5 @@
 //! Members of objects and items of lists.
-ghost use Rattle.std.specs.Prelude.{◌≡◌, ◌&&◌, ⊤, [], List, ℕ, Bool, IsTrue, length, map};
+ghost use Rattle.std.specs.Prelude.{◌≡◌, ◌&&◌, List, ℕ, Bool, IsTrue, length, map};
 ghost use Rattle.std.specs.Prelude.{option_map, nat_eq, Result, IfOk, ◌≤◌};
 ghost use Rattle.std.specs.Cmp.Lexicographic.{pointwise};
 ghost use Rattle.std.specs.List.{list_any, list_all};
@@ -280,7 +280,7 @@ pub fn optional_list_member<T: FromDocument>(
     }
 }
 
-/// Each of these items, in order.
+/// The items that values write, in order.
 pub fn items_of<T: FromDocument>(
     alloc: Global,
     place: &DocumentPlace<'_>,

@@ -150,7 +150,7 @@ fn action_of(alloc: Global, place: &DocumentPlace<'_>, value: &Value) -> Result<
     }
 }
 
-/// No member but those of a rule with this action.
+/// Checks that a rule has no member but those of a rule with this action.
 fn check_other_members(
     alloc: Global,
     place: &DocumentPlace<'_>,

@@ -1,5 +1,5 @@
 //! The ends of the configuration node's sessions.
-ghost use Rattle.std.specs.Prelude.{◌≡◌, ◌<◌, [], length, map, not, false, None, Some, IfOk, IfSome, IsTrue, OnErr};
+ghost use Rattle.std.specs.Prelude.{◌≡◌, ◌<◌, [], length, map, not, false, None, Some, IfOk, IsTrue, OnErr};
 ghost use Rattle.config_types.specs.Form.{has_config_form, has_topology_form};
 ghost use Rattle.config_check.specs.Rules.{first_broken};
 ghost use Rattle.item_wire.specs.Happenings.{after};

@@ -58,7 +58,7 @@ unfoldable pub has_node_form : Node → Bool
 has_node_form n = is_node_name n.name && is_node_address n.address.0 && list_all is_name n.controllers
     && is_from_to 1 2 (length n.controllers)
 
--- but for the number of compute nodes, about which a rule of valid configurations is
+-- a topology has its form, but for the number of compute nodes, about which a rule of valid configurations is
 abbrev pub has_nodes_form : Topology → Bool
 has_nodes_form t =
     is_as_number t.asn

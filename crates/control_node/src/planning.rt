@@ -1,5 +1,5 @@
 //! The plans of a pass: what each session is to be told.
-ghost use Rattle.std.specs.Prelude.{◌≡◌, ◌<◌, ◌≤◌, ◌+◌, ◌^◌, ◌++◌, [], false, length, map, IfOk};
+ghost use Rattle.std.specs.Prelude.{◌≡◌, ◌<◌, ◌≤◌, ◌+◌, ◌^◌, ◌++◌, false, length, map, IfOk};
 ghost use Rattle.std.specs.List.{AllByRecursion};
 ghost use Rattle.ov_sync.specs.Embed.{moved_delta};
 ghost use Rattle.bgp_session.specs.BgpVpn.Written.{IfPut};
@@ -17,7 +17,6 @@ ghost use Rattle.control_node.specs.Planning.{
   IsPeerTold,
   agent_plan,
   agent_plans,
-  feed_plan,
   peer_plan,
 };
 ghost use Rattle.control_node.specs.Tracking.{AreAgentsTracked, IsAgentTracked, IsPeerTracked, Tracks};

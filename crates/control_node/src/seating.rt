@@ -1,7 +1,7 @@
 //! Ends of sessions with agents that come while the node runs.
 ghost use Rattle.std.specs.Prelude.{◌≡◌, ◌<◌, ◌≤◌, ◌+◌, ◌++◌, [], ◌∷◌, suc, length, slice_set, OnOk, OnErr};
 ghost use Rattle.node_core.specs.NodeModel.Step.{nothing};
-ghost use Rattle.control_node.specs.Agents.{is_agent, put_at};
+ghost use Rattle.control_node.specs.Agents.{is_agent};
 ghost use Rattle.control_node.specs.Core.{sessions};
 ghost use Rattle.control_node.specs.Made.{new_agent};
 ghost use Rattle.control_node.specs.Seating.{seated};

@@ -7,7 +7,6 @@ ghost use Rattle.ov_types.specs.declared.keys.UpKey.TheVariants as Up;
 ghost use Rattle.ov_types.specs.declared.numbers.InstanceId.{InstanceId as InstanceOf};
 ghost use Rattle.ov_types.specs.declared.vpn.VpnKey.{VpnKey as KeyOf};
 ghost use Rattle.vpn_tables.specs.NodeModel.Keys.{Key, Row, Vpn};
-ghost use Rattle.vpn_tables.specs.NodeModel.Members.{Member};
 ghost use Rattle.vpn_tables.specs.NodeModel.Paths.{Told};
 ghost use Rattle.vpn_tables.specs.Changes.{with_publication, with_route};
 ghost use Rattle.vpn_tables.specs.Listing.{told_in};

@@ -5,7 +5,7 @@ use Rattle.compile_answers.specs.declared.unfit.Reception.{Reception}
 use Rattle.compile_answers.specs.declared.unfit.Reception.TheVariants.{Good}
 use Rattle.compile_answers.specs.Answers.{AreDocument, Taken, taken_as, taken_from}
 use Rattle.ov_io.specs.Pieces.{TookText}
-use Rattle.ov_json.specs.Json.{json_of}
+use Rattle.ov_io.specs.Json.{json_of}
 use Rattle.decode_answers.specs.declared.log_answer.Log.{Log}
 use Rattle.decode_answers.specs.declared.entry.LogEntry.{LogEntry}
 use Rattle.decode_answers.specs.LogReading.{log_at}

@@ -1,5 +1,4 @@
 //! What chains expand to.
-ghost use Rattle.std.specs.Prelude.{◌≤◌, length};
 
 use crate::documents::{name_of, value_of};
 use crate::fault::{CaseFault, told};

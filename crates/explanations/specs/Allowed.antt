@@ -11,7 +11,7 @@ is word text = pointwise nat_eq word text
 abbrev pub first_member : List ℕ → List ℕ
 first_member path = member_name (before_first (λ c. c == 46) path)
 
--- of what the lists of the commands have, and of the edits in them: events, steps and edits have one member
+-- the members of an object in a list of the commands, and of an edit in one: events, steps and edits have one member
 unfoldable pub listed_members : List ℕ → List ℕ
 listed_members parent =
     if is parent (codes "packets")
@@ -27,7 +27,7 @@ listed_members parent =
     then codes "one of network, port, policy, service, chain and node"
     else no_phrase)))))))
 
--- of the object that stands in a list of this name, or under it; the document stands under none
+-- the members of the object that stands in a list of this name, or under it; the document stands under none
 unfoldable pub members_of : List ℕ → List ℕ
 members_of parent =
     if is parent (codes "")
@@ -52,7 +52,7 @@ begins_in_form path =
     is word (codes "") || (is word (codes "topology") || (is word (codes "configuration") || (is word (codes "packets")
     || (is word (codes "groups") || (is word (codes "events") || (is word (codes "steps") || is word (codes "edits")))))))
 
--- of the object that a path leads into
+-- the members of the object that a path leads into
 unfoldable pub allowed_at : List ℕ → List ℕ
 allowed_at path =
     let front = before_point path in

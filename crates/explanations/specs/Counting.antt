@@ -20,7 +20,7 @@ abbrev pub LinesAreCounted : Type 0
 LinesAreCounted =
     (octets : List ℕ) → length octets < 2 ^ 64 - 2 → (place_behind start octets).line ≡ 1 + feeds octets
 
--- and an octet by those before it in its line, be it the first or not
+-- an octet is numbered by those before it in its line, be the line the first or not
 pub record ColumnsAreCounted : Type 0 where
   pub first : (line : List ℕ) → is_line line ≡ true → length line < 2 ^ 64 - 2
       → (place_behind start line).column ≡ 1 + length line

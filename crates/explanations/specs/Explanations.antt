@@ -33,7 +33,7 @@ explanation_text (Says.DigitFault fault) = said (digit_sentence fault)
 explanation_text (Says.FormFault fault) = said (form_sentence fault.kind fault.path.now)
 explanation_text (Says.Refused r) = said (refused_sentence r.rule r.first.now r.second.now r.third.now)
 
--- of the words of a line, where it has any: what its value is, and how it breaks the form
+-- what the words of a line say, where it has any: what its value is, and how it breaks the form
 abbrev form_said : Option FormWords → List ℕ
 form_said (Some words) = said (form_sentence words.kind words.path)
 form_said None = advised On.BadDocument

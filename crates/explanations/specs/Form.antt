@@ -23,7 +23,7 @@ subject_of path = if length path == 0 then codes "the document" else path
 abbrev pub stranger_of : List ℕ → List ℕ
 stranger_of path = if length path == 0 then codes "the member without a name" else path
 
--- of a number that is wanted, which numbers are whole
+-- what is said, where a number is wanted, of which numbers are whole
 abbrev pub kind_note : List ℕ → List ℕ
 kind_note wanted =
     if begins_so (codes "a whole number") wanted then codes "; a number stands in digits alone and is below 2^64" else []
@@ -52,7 +52,7 @@ kind_at_end text =
     then record { path = without_end (codes " Unknown" ++ (10 ∷ [])) text; kind = Unknown }
     else record { path = text; kind = Cut })))
 
--- the same of a line of which at most 512 octets were kept: where there are as many, it may be cut
+-- the path and the kind in a line of which at most 512 octets were kept: where there are as many, it may be cut
 abbrev pub kind_in : List ℕ → FormWords
 kind_in line =
     if nat_lt (length line) 512 then kind_at_end (drop 12 line) else record { path = drop 12 line; kind = Cut }

@@ -6,7 +6,7 @@ use Rattle.explanations.specs.declared.place.TextPlace.{TextPlace}
 abbrev pub start : TextPlace
 start = record { line = 1; column = 1 }
 
--- one more, in a count that stops at the last value of a usize
+-- a count with one more, which stops at the last value of a usize
 abbrev one_more : ℕ → ℕ
 one_more n = min (n + 1) (2 ^ 64 - 1)
 

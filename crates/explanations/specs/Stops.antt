@@ -1,6 +1,6 @@
 -- Why a document is no JSON that the reader takes, and where.
 use Rattle.std.specs.Prelude.{◌≡◌, ℕ, ◌≤◌, ◌++◌, List, length, take, codes, None, ⊤}
-use Rattle.ov_json.specs.Json.{json_of}
+use Rattle.ov_io.specs.Json.{json_of}
 use Rattle.explanations.specs.Places.{place_behind, place_text, start}
 use Rattle.explanations.specs.Words.{utf8_front}
 use Rattle.explanations.specs.declared.json.JsonFault.{JsonFault}

@@ -148,7 +148,7 @@ packet_member member =
     then codes "dropped, dropped and a reason such as denied, or an object with port and services"
     else no_phrase))))
 
--- of what is expected of a packet that is delivered
+-- what is wanted of a member of what is expected of a packet that is delivered
 unfoldable pub expect_member : List ℕ → List ℕ
 expect_member member =
     if is member (codes "port") then port_id
@@ -163,7 +163,7 @@ group_member member =
     else (if is member (codes "members") then codes "a list of 1 to 16 numbers, each below the next"
     else no_phrase)
 
--- of a schedule's event, of a log's entry and of a step: each has one of these members
+-- what is wanted of a schedule's event, of a log's entry and of a step: each has one of these members
 unfoldable pub event_member : List ℕ → List ℕ
 event_member member =
     if is member (codes "edit") then edit
@@ -182,14 +182,14 @@ edit_member member =
     then codes "an object with one member: network, port, policy, service, chain or node"
     else no_phrase
 
--- of a put its kinds of object are objects, of a delete they are names
+-- what is wanted of a kind of object: in a put an object, in a delete a name
 unfoldable pub kind_member : List ℕ → List ℕ → List ℕ
 kind_member phrase member =
     if is member (codes "network") || is member (codes "port") || is member (codes "policy")
     || is member (codes "service") || is member (codes "chain") || is member (codes "node") then phrase
     else no_phrase
 
--- of edits, each by itself or in an event, and of what they put and delete
+-- what is wanted of a member of an edit, by itself or in an event, and of what it puts and deletes
 unfoldable pub edited_member : List ℕ → List ℕ → List ℕ
 edited_member parent member =
     if is parent (codes "edit") || is parent (codes "edits") then edit_member member
@@ -197,7 +197,7 @@ edited_member parent member =
     else (if is parent (codes "delete") then kind_member name member
     else no_phrase))
 
--- of what the lists of the commands have: packets, groups, events, steps and edits
+-- what is wanted of a member of an object in a list of the commands: packets, groups, events, steps and edits
 unfoldable pub listed_member : List ℕ → List ℕ → List ℕ
 listed_member parent member =
     if is parent (codes "packets") || is parent (codes "trace") then packet_member member
@@ -222,7 +222,7 @@ member_wanted parent member =
     else (if is parent (codes "chains") || is parent (codes "chain") then chain_member member
     else listed_member parent member))))))))))
 
--- of three lists the objects that they are of say what their items are
+-- what is wanted of an item of three lists, by the object that the list is of
 unfoldable pub controllers_item : List ℕ → List ℕ
 controllers_item parent =
     if is parent (codes "topology") then object
@@ -245,7 +245,7 @@ services_item parent =
 abbrev pub is_third : List ℕ → Bool
 is_third word = ends_so (codes "[2]") word
 
--- of a list of two names and a number
+-- what is wanted of an item of a list of two names and a number
 abbrev pub item_of_three : List ℕ → List ℕ
 item_of_three word = if is_third word then codes "a whole number from 1 to 1000000" else name
 

@@ -61,7 +61,7 @@ fn members_of(parent: &str) -> &'static str
     }
 }
 
-/// Those of what the lists of the commands have, and of the edits in them.
+/// The members that an object of a list of the commands may have, or of an edit in such a list.
 #[tactic(auto, unfolding(crate::specs::Allowed::listed_members))]
 fn listed_members(parent: &str) -> &'static str
     ensures { result.now ≡ listed_members parent.now }

@@ -82,7 +82,7 @@ fn first_or_second(fault: Option<DigitFault>, place: TextPlace) -> Option<DigitF
 }
 
 impl DigitScan {
-    /// Of no text.
+    /// The scan of no text.
     pub fn new() -> DigitScan
         ensures { result ≡ nothing_scanned }
     {
@@ -99,7 +99,7 @@ impl DigitScan {
         self.fault
     }
 
-    /// Behind an octet too. Nothing is looked at behind a stray one.
+    /// The scan behind one octet more. Nothing is looked at behind a stray octet.
     fn after(self, octet: u8) -> DigitScan
         ensures { result ≡ scan_after self octet }
     {

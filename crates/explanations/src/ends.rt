@@ -1,5 +1,5 @@
 //! Ends that keep what people are told by.
-ghost use Rattle.std.specs.Prelude.{◌≡◌, ◌<◌, ◌⊎◌, ◌++◌, [], length, take, IfOk, OnErr};
+ghost use Rattle.std.specs.Prelude.{◌≡◌, ◌<◌, ◌++◌, [], length, take, IfOk, OnErr};
 ghost use Rattle.std.specs.Io.{ReadsAtMost, WritesAtMost};
 ghost use Rattle.std.specs.Io.KnownBytes.{ReadConsumes, WriteAppends};
 ghost use Rattle.ov_io.specs.Causes.{HasCause};
@@ -7,7 +7,6 @@ ghost use Rattle.explanations.specs.Ends.{HeardMore, front_of, heard_of};
 
 use arrayvec::ArrayVec;
 use ov_io::{Sink, SinkFault, Source, SourceFault};
-use std::alloc::Global;
 
 /// How many octets are kept of what is written.
 pub(crate) const FRONT_OCTETS: usize = 512;

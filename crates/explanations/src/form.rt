@@ -1,6 +1,6 @@
 //! The line of a document that breaks the form.
 ghost use Rattle.std.specs.Prelude.{◌≡◌, option_map};
-ghost use Rattle.explanations.specs.Form.{FormWords, form_fault_in, form_words, kind_at_end, kind_note, stranger_of};
+ghost use Rattle.explanations.specs.Form.{form_fault_in, form_words, kind_at_end, kind_note, stranger_of};
 ghost use Rattle.explanations.specs.Form.{subject_of};
 ghost use Rattle.explanations.specs.Words.{utf8_front};
 

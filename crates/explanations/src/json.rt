@@ -50,7 +50,7 @@ impl fmt::Display for JsonFault {
 
 /// Why octets are no JSON that the reader takes: by the grammar of RFC 8259 where they break it, at the latest behind the
 /// longest front that is UTF-8. None where they are JSON, and where memory is wanting.
-#[tactic(auto, using(ov_json::proofs::JsonLaws::json_of_text, ov_json::proofs::JsonLaws::json_of_other, crate::proofs::Fronts::whole_front))]
+#[tactic(auto, using(ov_io::proofs::JsonLaws::json_of_text, ov_io::proofs::JsonLaws::json_of_other, crate::proofs::Fronts::whole_front))]
 pub fn json_fault(alloc: Global, octets: &[u8]) -> Option<JsonFault>
     ensures stopped { IfSome result (IsJsonFault octets.now) }
     ensures octet { ¬ IsUtf8 octets.now → IsSome result }
@@ -101,7 +101,7 @@ fn is_of_number(alloc: Global, error: &Error) -> bool {
     }
 }
 
-/// The place behind so many octets.
+/// The place behind a number of octets.
 fn place_behind(octets: &[u8], count: usize) -> TextPlace
     requires { count ≤ length octets.now }
     ensures { IsPlaceIn octets.now result }

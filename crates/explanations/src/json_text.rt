@@ -8,11 +8,11 @@ use arrayvec::ArrayVec;
 /// How a text is found to be, by the grammar of JSON.
 #[derive(Clone, Copy, Debug, PartialEq, Eq)]
 pub(crate) enum JsonEnd {
-    /// Behind so many octets no JSON text goes on as this one does, or this one ends too early.
+    /// Behind this number of octets no JSON text goes on as the text does, or the text ends too early.
     Stopped(usize),
-    /// Behind so many octets a list or an object begins that is deeper in others than the reader takes.
+    /// Behind this number of octets a list or an object begins that is deeper in others than the reader takes.
     TooDeep(usize),
-    /// It is a JSON text.
+    /// The text is a JSON text.
     Whole,
 }
 
@@ -79,7 +79,7 @@ enum Expected {
     Text(TextKind),
     /// What follows a backslash.
     Escaped(TextKind),
-    /// So many more hexadecimal digits.
+    /// A number of further hexadecimal digits.
     Digits(TextKind, u8),
     Number(NumberPart),
     Letters(Letters),

@@ -96,7 +96,7 @@ pub fn refused_in(line: &[u8]) -> Option<Refused<'_>>
     words_in(utf8_front(words))
 }
 
-/// The rule of the first word, and the others as objects.
+/// The rule that the first word names, and the other words as objects.
 #[tactic(auto, unfolding(crate::specs::Refusals::words_in))]
 fn words_in(words: &str) -> Option<Refused<'_>>
     ensures { option_map refused_words result ≡ words_in words.now }

@@ -9,7 +9,7 @@ ghost use Rattle.explanations.specs.Wanted.{listed_member};
 ghost use Rattle.explanations.specs.Wanted.{network_member, node_member, packet_member, policy_member, port_member};
 ghost use Rattle.explanations.specs.Wanted.{rule_member, service_member, topology_member};
 
-/// Of a place that the form does not have.
+/// What is said of a place that the form does not have.
 pub(crate) const NO_PHRASE: &str = "docs/FORMATS.md has it";
 
 const OBJECT: &str = "an object";
@@ -73,7 +73,8 @@ fn is_item(word: &str) -> bool
     word.as_bytes().strip_suffix(b"]").is_some()
 }
 
-/// What is wanted of a member, by the one before it: the list that its object is in, or the object's kind in an edit.
+/// What is wanted of a member, by the word that stands before it in a path: the list that its object is in, or the
+/// object's kind in an edit.
 #[tactic(auto, unfolding(crate::specs::Wanted::member_wanted))]
 fn member_wanted(parent: &str, member: &str) -> &'static str
     ensures { result.now ≡ member_wanted parent.now member.now }
@@ -94,7 +95,7 @@ fn member_wanted(parent: &str, member: &str) -> &'static str
     }
 }
 
-/// Of what the lists of the commands have.
+/// What is wanted of a member of an object in a list of the commands.
 #[tactic(auto, unfolding(crate::specs::Wanted::listed_member))]
 fn listed_member(parent: &str, member: &str) -> &'static str
     ensures { result.now ≡ listed_member parent.now member.now }
@@ -108,7 +109,7 @@ fn listed_member(parent: &str, member: &str) -> &'static str
     }
 }
 
-/// Of edits, and of what they put and delete.
+/// What is wanted of a member of an edit, of a put or of a delete.
 #[tactic(auto, unfolding(crate::specs::Wanted::edited_member))]
 fn edited_member(parent: &str, member: &str) -> &'static str
     ensures { result.now ≡ edited_member parent.now member.now }
@@ -121,7 +122,7 @@ fn edited_member(parent: &str, member: &str) -> &'static str
     }
 }
 
-/// Of a document, which the empty path leads to, and of its members, whatever the command.
+/// What is wanted of a document, which the empty path leads to, and of its members, whatever the command.
 #[tactic(auto, unfolding(crate::specs::Wanted::document_member))]
 fn document_member(member: &str) -> &'static str
     ensures { result.now ≡ document_member member.now }
@@ -134,7 +135,7 @@ fn document_member(member: &str) -> &'static str
     }
 }
 
-/// Of the topology.
+/// What is wanted of a member of the topology.
 #[tactic(auto, unfolding(crate::specs::Wanted::topology_member))]
 fn topology_member(member: &str) -> &'static str
     ensures { result.now ≡ topology_member member.now }
@@ -147,7 +148,7 @@ fn topology_member(member: &str) -> &'static str
     }
 }
 
-/// Of a control node.
+/// What is wanted of a member of a control node.
 #[tactic(auto, unfolding(crate::specs::Wanted::controller_member))]
 fn controller_member(member: &str) -> &'static str
     ensures { result.now ≡ controller_member member.now }
@@ -159,7 +160,7 @@ fn controller_member(member: &str) -> &'static str
     }
 }
 
-/// Of a compute node.
+/// What is wanted of a member of a compute node.
 #[tactic(auto, unfolding(crate::specs::Wanted::node_member))]
 fn node_member(member: &str) -> &'static str
     ensures { result.now ≡ node_member member.now }
@@ -172,7 +173,7 @@ fn node_member(member: &str) -> &'static str
     }
 }
 
-/// Of the configuration.
+/// What is wanted of a member of the configuration.
 #[tactic(auto, unfolding(crate::specs::Wanted::configuration_member))]
 fn configuration_member(member: &str) -> &'static str
     ensures { result.now ≡ configuration_member member.now }
@@ -183,7 +184,7 @@ fn configuration_member(member: &str) -> &'static str
     }
 }
 
-/// Of a network.
+/// What is wanted of a member of a network.
 #[tactic(auto, unfolding(crate::specs::Wanted::network_member))]
 fn network_member(member: &str) -> &'static str
     ensures { result.now ≡ network_member member.now }
@@ -197,7 +198,7 @@ fn network_member(member: &str) -> &'static str
     }
 }
 
-/// Of a port.
+/// What is wanted of a member of a port.
 #[tactic(auto, unfolding(crate::specs::Wanted::port_member))]
 fn port_member(member: &str) -> &'static str
     ensures { result.now ≡ port_member member.now }
@@ -210,7 +211,7 @@ fn port_member(member: &str) -> &'static str
     }
 }
 
-/// Of a policy.
+/// What is wanted of a member of a policy.
 #[tactic(auto, unfolding(crate::specs::Wanted::policy_member))]
 fn policy_member(member: &str) -> &'static str
     ensures { result.now ≡ policy_member member.now }
@@ -223,7 +224,7 @@ fn policy_member(member: &str) -> &'static str
     }
 }
 
-/// Of a rule.
+/// What is wanted of a member of a rule.
 #[tactic(auto, unfolding(crate::specs::Wanted::rule_member))]
 fn rule_member(member: &str) -> &'static str
     ensures { result.now ≡ rule_member member.now }
@@ -242,7 +243,7 @@ fn rule_member(member: &str) -> &'static str
     }
 }
 
-/// Of a service.
+/// What is wanted of a member of a service.
 #[tactic(auto, unfolding(crate::specs::Wanted::service_member))]
 fn service_member(member: &str) -> &'static str
     ensures { result.now ≡ service_member member.now }
@@ -254,7 +255,7 @@ fn service_member(member: &str) -> &'static str
     }
 }
 
-/// Of a chain.
+/// What is wanted of a member of a chain.
 #[tactic(auto, unfolding(crate::specs::Wanted::chain_member))]
 fn chain_member(member: &str) -> &'static str
     ensures { result.now ≡ chain_member member.now }
@@ -266,7 +267,7 @@ fn chain_member(member: &str) -> &'static str
     }
 }
 
-/// Of a packet.
+/// What is wanted of a member of a packet.
 #[tactic(auto, unfolding(crate::specs::Wanted::packet_member))]
 fn packet_member(member: &str) -> &'static str
     ensures { result.now ≡ packet_member member.now }
@@ -282,7 +283,7 @@ fn packet_member(member: &str) -> &'static str
     }
 }
 
-/// Of what is expected of a packet that is delivered.
+/// What is wanted of a member of what is expected of a packet that is delivered.
 #[tactic(auto, unfolding(crate::specs::Wanted::expect_member))]
 fn expect_member(member: &str) -> &'static str
     ensures { result.now ≡ expect_member member.now }
@@ -294,7 +295,7 @@ fn expect_member(member: &str) -> &'static str
     }
 }
 
-/// Of a group.
+/// What is wanted of a member of a group.
 #[tactic(auto, unfolding(crate::specs::Wanted::group_member))]
 fn group_member(member: &str) -> &'static str
     ensures { result.now ≡ group_member member.now }
@@ -306,7 +307,8 @@ fn group_member(member: &str) -> &'static str
     }
 }
 
-/// Of an event of a schedule, of an entry of a log and of a step, which have no member in common that is another thing.
+/// What is wanted of a member of an event of a schedule, of an entry of a log or of a step. A member that two of these
+/// share is the same in both.
 #[tactic(auto, unfolding(crate::specs::Wanted::event_member))]
 fn event_member(member: &str) -> &'static str
     ensures { result.now ≡ event_member member.now }
@@ -325,7 +327,7 @@ fn event_member(member: &str) -> &'static str
     }
 }
 
-/// Of an edit.
+/// What is wanted of a member of an edit.
 #[tactic(auto, unfolding(crate::specs::Wanted::edit_member))]
 fn edit_member(member: &str) -> &'static str
     ensures { result.now ≡ edit_member member.now }
@@ -337,7 +339,7 @@ fn edit_member(member: &str) -> &'static str
     }
 }
 
-/// Of what is put or deleted, where this is wanted of each kind of object.
+/// What is wanted of a member of a put or a delete: one phrase for each kind of object.
 #[tactic(auto, unfolding(crate::specs::Wanted::kind_member))]
 fn kind_member(phrase: &'static str, member: &str) -> &'static str
     ensures { result.now ≡ kind_member phrase.now member.now }
@@ -371,7 +373,7 @@ fn item_wanted(parent: &str, member: &str, word: &str) -> &'static str
     }
 }
 
-/// Of a list of two names and a number.
+/// What is wanted of an item of a list of two names and a number.
 fn item_of_three(word: &str) -> &'static str
     ensures { result.now ≡ item_of_three word.now }
 {
@@ -389,7 +391,7 @@ fn is_third(word: &str) -> bool
     word.as_bytes().strip_suffix(b"[2]").is_some()
 }
 
-/// Of the controllers of a topology, and of a node.
+/// What is wanted of an item of the controllers of a topology, or of a node.
 #[tactic(auto, unfolding(crate::specs::Wanted::controllers_item))]
 fn controllers_item(parent: &str) -> &'static str
     ensures { result.now ≡ controllers_item parent.now }
@@ -401,7 +403,7 @@ fn controllers_item(parent: &str) -> &'static str
     }
 }
 
-/// Of the policies of a configuration, and of a network.
+/// What is wanted of an item of the policies of a configuration, or of a network.
 #[tactic(auto, unfolding(crate::specs::Wanted::policies_item))]
 fn policies_item(parent: &str) -> &'static str
     ensures { result.now ≡ policies_item parent.now }
@@ -413,7 +415,7 @@ fn policies_item(parent: &str) -> &'static str
     }
 }
 
-/// Of the services of a configuration, and of those that a packet is expected to pass.
+/// What is wanted of an item of the services of a configuration, or of those that a packet is expected to pass.
 #[tactic(auto, unfolding(crate::specs::Wanted::services_item))]
 fn services_item(parent: &str) -> &'static str
     ensures { result.now ≡ services_item parent.now }

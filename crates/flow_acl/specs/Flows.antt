@@ -36,7 +36,7 @@ is_flow = flows.ghosts.eq
 abbrev pub IsOf : List (LowKey × LowValue) → FlowKey × Verdict → Type 0
 IsOf lists e = (source : PortNo) → e.1 ≡ verdict lists e.0.network.0 (packet_of e.0 source)
 
--- each of them is
+-- each kept verdict is what the lists say of the packets of its flow
 abbrev pub AreOf : List (LowKey × LowValue) → List (FlowKey × Verdict) → Type 0
 AreOf lists kept = All (IsOf lists) kept
 

@@ -76,7 +76,7 @@ impl Acls {
         self.lists.get(&key)
     }
 
-    /// Whether the others are the very same lists. It takes no memory.
+    /// Whether other lists are the very same. It takes no memory.
     pub fn is(&self, other: &Acls) -> bool
         ensures { IsTrue result ↔ (self.now ≡ other.now) }
     {

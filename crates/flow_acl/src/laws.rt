@@ -22,9 +22,9 @@ pub fn a_destination_is_one_that_a_list_holds()
         → ¬ Leads network p.destination.0 to rules object) }
 {}
 
-/// Of the lists that hold the destination the one that leads to the least network decides. One that leads to the
-/// network itself passes, whatever its entries. Of another the first entry that holds the tuple decides, and where none
-/// does the packet is denied by no rule.
+/// Among the lists that hold the destination the one that leads to the least network decides. Where it leads to the
+/// network that the packet leaves, the packet passes, whatever its entries. Else its first entry that holds the tuple
+/// decides, and where none does the packet is denied by no rule.
 pub fn the_least_list_decides()
     ensures inside { (lists : List (LowKey × LowValue)) (network : ℕ) (rules : List AclRule) (p : Packet) → IsMap lists
         → Decides lists network p.destination.0 network rules → verdict lists network p ≡ Pass }
@@ -50,8 +50,8 @@ pub fn a_flow_is_of_a_network_and_not_of_a_port()
         → IsTrue (is_flow (flow_of left p) (flow_of other q)) ↔ GoAlike left other p q }
 {}
 
-/// Of verdicts 1,024 are kept and no more: a new one stands before those that were there, all of them where there were
-/// fewer, and all but the last where there were so many.
+/// At most 1,024 verdicts are kept. A new one stands before those that were there: before all of them where there were
+/// fewer, and before all but the last where there were 1,024.
 pub fn so_many_verdicts_are_kept()
     ensures fewer { (f : FlowKey) (v : Verdict) (kept : List (FlowKey × Verdict)) → length kept < 1024
         → with_new f v kept ≡ (f, v) ∷ kept }

@@ -76,7 +76,7 @@ fn any_contains(subnets: &[Prefix], address: Addr) -> bool
     subnets.iter().any(|subnet| subnet.contains(address))
 }
 
-/// Of two lists the one that leads to the lesser network, and of two alike the first.
+/// The one of two lists that leads to the lesser network, and the first where both lead to one.
 fn lesser<'a>(
     first: Option<AccessList<'a>>,
     second: Option<AccessList<'a>>,

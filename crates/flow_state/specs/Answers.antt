@@ -5,7 +5,7 @@ use Rattle.std.specs.Io.KnownBytes.{Appends}
 use Rattle.serde_json.specs.Data.{Data}
 use Rattle.config_check.specs.Checked.{Checked}
 use Rattle.compile_answers.specs.Answers.{AreDocument, DocumentAnswer, Taken, answer_by, taken_as, taken_from, taken_valid}
-use Rattle.ov_json.specs.Json.{json_of}
+use Rattle.ov_io.specs.Json.{json_of}
 use Rattle.flow_state.specs.declared.step.FlowsInput.{FlowsInput}
 use Rattle.flow_state.specs.declared.step.FlowStep.{FlowStep}
 use Rattle.flow_state.specs.Steps.{flows_at, has_step_form}

@@ -1,5 +1,5 @@
 //! Writing what `flows` writes: each line is made, and handed on where enough is gathered.
-ghost use Rattle.std.specs.Prelude.{◌≡◌, ◌<◌, OnOk, OnErr, IsTrue};
+ghost use Rattle.std.specs.Prelude.{◌<◌, OnOk, OnErr, IsTrue};
 ghost use Rattle.std.specs.Io.KnownBytes.{Appends};
 ghost use Rattle.std.specs.List.{list_all};
 ghost use Rattle.ov_io.specs.Inputs.{TookFront};

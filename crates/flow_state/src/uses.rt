@@ -1,6 +1,5 @@
 //! Which flow a packet uses.
-ghost use Rattle.std.specs.Prelude.{◌≡◌, IsTrue, option_copied};
-ghost use Rattle.std.specs.List.{list_all};
+ghost use Rattle.std.specs.Prelude.{◌≡◌, option_copied};
 ghost use Rattle.flow_state.specs.Flows.{forward_use, network_of, one_way_between};
 
 use crate::flow::Flow;

@@ -45,7 +45,7 @@ impl fmt::Display for EventFault {
 /// The members of an event that name a session.
 static OF_SESSIONS: [&str; 5] = ["deliver", "deliver-bytes", "lose", "connect", "break"];
 
-/// Those that name a node.
+/// The members of an event that name a node.
 static OF_NODES: [&str; 2] = ["restart", "show"];
 
 /// What a list of names of two nodes has that is not there.

@@ -4,7 +4,7 @@ use crate::events::{EventFault, strange_event};
 use crate::holders::{Excess, excess_of};
 use crate::references::{Reference, reference_to};
 use explanations::{FormFault, FormKind, KeptInput, Refused, RuleKind, form_fault_in, refused_in};
-use ov_json::value_of;
+use ov_io::value_of;
 use serde_json::Value;
 use std::alloc::Global;
 use std::fmt;

@@ -82,7 +82,7 @@ impl Holder {
     }
 }
 
-/// It prints as the path of the member.
+/// A holder prints as the path of its member.
 impl fmt::Display for Holder {
     fn fmt<W: fmt::Write>(&self, f: &mut fmt::Formatter<W>) -> fmt::Result {
         let (part, list, word) = (self.member.part(), self.member.list(), self.member.word());

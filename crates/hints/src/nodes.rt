@@ -15,7 +15,7 @@ pub(crate) struct Cast {
 }
 
 impl Cast {
-    /// Of no node.
+    /// The names of no node.
     pub(crate) fn new(alloc: Global) -> Cast {
         Cast {
             controls: BTreeSet::new(alloc),
@@ -24,7 +24,7 @@ impl Cast {
         }
     }
 
-    /// With the nodes of a document.
+    /// Adds the nodes of a document.
     pub(crate) fn hear_topology(&mut self, document: &Value) -> Result<(), AllocError> {
         if let Some(controls) = objects_of(document, "topology", "controllers") {
             self.hear_controls(controls)?;
@@ -51,7 +51,7 @@ impl Cast {
         Ok(())
     }
 
-    /// With a compute node.
+    /// Adds a compute node.
     pub(crate) fn hear_agent(&mut self, agent: &Value) -> Result<(), AllocError> {
         let Some(name) = name_in(agent) else {
             return Ok(());

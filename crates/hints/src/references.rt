@@ -45,7 +45,7 @@ static REFERRING: [Member; 9] = [
     Member::ChainHops,
 ];
 
-/// Of which kind an object has to be that a member refers to.
+/// The kind of the object that a member refers to.
 fn wanted_by(member: Member) -> &'static str {
     match member {
         Member::NodeControllers => "control node",

@@ -6,7 +6,7 @@ use Rattle.config_types.specs.Form.{has_edit_form}
 use Rattle.config_types.specs.declared.edit.Edit.{Edit}
 use Rattle.config_check.specs.Checked.{Checked}
 use Rattle.compile_answers.specs.Answers.{DocumentAnswer, Taken, answer_by, taken_as, taken_from, taken_valid}
-use Rattle.ov_json.specs.Json.{json_of}
+use Rattle.ov_io.specs.Json.{json_of}
 use Rattle.inspect_json.specs.declared.form.Form.{Form}
 use Rattle.hitless_answers.specs.FormLines.{hitless_in}
 use Rattle.hitless_answers.specs.Reading.{hitless_at}

@@ -1,5 +1,5 @@
 //! Writing what `hitless` writes: each line is made, and handed on where enough is gathered.
-ghost use Rattle.std.specs.Prelude.{◌≡◌, ◌++◌, [], flat_map, IsTrue, OnErr, OnOk};
+ghost use Rattle.std.specs.Prelude.{◌++◌, [], flat_map, IsTrue, OnErr, OnOk};
 ghost use Rattle.std.specs.Io.KnownBytes.{Appends};
 ghost use Rattle.std.specs.List.{list_all};
 ghost use Rattle.ov_io.specs.Inputs.{TookFront};
@@ -14,7 +14,7 @@ use crate::judging::{Judge, Judgement};
 use crate::lines::{PacketLines, RefusedLines, push_count, push_hitless};
 use compile_answers::write_one;
 use config_check::Valid;
-use config_types::{Config, Edit};
+use config_types::Edit;
 use hitless_cells::Interruption;
 use inspect_json::Form;
 use ov_io::{Sink, TextOut, WriteRefusal, write_gathered};

@@ -2,7 +2,7 @@
 use Rattle.std.proofs.Common.{◌≡◌, true, List, ℕ, Some, Result, Ok, Err, sym, ◌∙◌, subst, IsTrue}
 use Rattle.std.specs.Prelude.{IfOk, OnOk}
 use Rattle.serde_json.specs.Data.{Data}
-use Rattle.ov_json.specs.Json.{json_of}
+use Rattle.ov_io.specs.Json.{json_of}
 use Rattle.config_types.specs.Form.{has_config_form}
 use Rattle.config_types.specs.declared.config.Config.{Config}
 use Rattle.config_model.specs.Faults.{Fault}

@@ -5,7 +5,7 @@ use Rattle.std.specs.Prelude.{IfOk}
 use Rattle.std.specs.List.{All, Any, Contains}
 use Rattle.std.specs.Io.KnownBytes.{Appends}
 use Rattle.serde_json.specs.Data.{Data}
-use Rattle.ov_json.specs.Json.{json_of}
+use Rattle.ov_io.specs.Json.{json_of}
 use Rattle.ov_types.specs.declared.packet.Outcome.{Outcome}
 use Rattle.config_types.specs.Form.{has_config_form}
 use Rattle.config_types.specs.declared.config.Config.{Config}

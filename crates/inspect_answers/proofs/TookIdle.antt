@@ -3,7 +3,7 @@ use Rattle.std.proofs.Common.{◌≡◌, true, ℕ, List, [], Option, Some, None
 use Rattle.std.specs.Prelude.{IfOk}
 use Rattle.std.specs.Io.KnownBytes.{Appends}
 use Rattle.serde_json.specs.Data.{Data}
-use Rattle.ov_json.specs.Json.{json_of}
+use Rattle.ov_io.specs.Json.{json_of}
 use Rattle.config_types.specs.Form.{has_config_form}
 use Rattle.config_model.specs.Faults.{Fault}
 use Rattle.config_model.specs.Input.{compile_at}

@@ -1,7 +1,7 @@
 -- Whatever an input is read as has a configuration of the written form.
 use Rattle.std.specs.Prelude.{◌≡◌, ℕ, List, [], Some, Result, Ok, IsTrue}
 use Rattle.serde_json.specs.Data.{Data}
-use Rattle.ov_json.specs.Json.{json_of}
+use Rattle.ov_io.specs.Json.{json_of}
 use Rattle.config_types.specs.Form.{has_config_form}
 use Rattle.config_types.specs.declared.config.Config.{Config}
 use Rattle.config_model.specs.Faults.{Fault}

@@ -1,6 +1,5 @@
 //! The answer of `expect`.
-ghost use Rattle.std.specs.Prelude.{◌≡◌, ◌≤◌, ◌∷◌, ◌++◌, [], length, IfOk, IfErr, OnErr, OnOk};
-ghost use Rattle.std.specs.Io.KnownBytes.{Appends};
+ghost use Rattle.std.specs.Prelude.{◌≡◌, ◌≤◌, ◌∷◌, ◌++◌, [], IfOk, IfErr, OnErr, OnOk};
 ghost use Rattle.serde_json.specs.View.{view};
 ghost use Rattle.ov_io.specs.Inputs.{TookFront};
 ghost use Rattle.ov_io.specs.Pieces.{HasWriteCause, IsOnItsWay};
@@ -8,7 +7,7 @@ ghost use Rattle.inspect_answers.specs.Expectations.{expect_at};
 ghost use Rattle.inspect_answers.specs.InForm.{AreExpectedInForm, ReadsInForm};
 ghost use Rattle.inspect_answers.specs.Answers.{IsAnswer, IsUnfit, WasGiven, expect_answer, expect_value, expected_answer};
 ghost use Rattle.inspect_answers.specs.Expecting as expecting;
-ghost use Rattle.inspect_answers.specs.Expecting.{counts_in, drop_is_met, expect_in, unmet_count};
+ghost use Rattle.inspect_answers.specs.Expecting.{drop_is_met, expect_in, unmet_count};
 ghost use Rattle.inspect_answers.specs.Expecting.{unmet_from, unmet_in};
 ghost use Rattle.inspect_json.specs.declared.form.Form.{Form as LineForm};
 
@@ -20,8 +19,7 @@ use compile_answers::{Unfit, valid_of, write_one};
 use config_check::Valid;
 use config_model::ReadRefusal;
 use inspect_json::Form;
-use ov_io::{Sink, TextOut, WriteRefusal, write_gathered};
-use ov_json::value_of;
+use ov_io::{Sink, TextOut, WriteRefusal, value_of, write_gathered};
 use ov_types::{Items, NoMemory, Outcome, Why};
 use reach_plain::reach;
 use serde_json::Value;

@@ -4,7 +4,7 @@ ghost use Rattle.std.specs.Io.KnownBytes.{Appends};
 ghost use Rattle.ov_io.specs.Inputs.{TookFront};
 ghost use Rattle.ov_io.specs.Pieces.{HasWriteCause, IsOnItsWay};
 ghost use Rattle.inspect_changes.specs.Lines.{is_asked};
-ghost use Rattle.inspect_json.specs.WayLines.{between_in, network_in, pair_in, ways_in};
+ghost use Rattle.inspect_json.specs.WayLines.{between_in, pair_in, ways_in};
 
 use compile_answers::write_one;
 use config_check::Valid;

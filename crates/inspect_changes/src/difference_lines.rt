@@ -1,5 +1,5 @@
 //! The lines of what differs between two configurations.
-ghost use Rattle.std.specs.Prelude.{◌≡◌, ◌++◌, ℕ, List, Some, IfOk, string_bytes};
+ghost use Rattle.std.specs.Prelude.{◌≡◌, Some, IfOk, string_bytes};
 ghost use Rattle.inspect_changes.specs.DifferenceLines.{came_line, difference_line, fate_text, object_text, went_line};
 
 use crate::fate::{Difference, Fate};

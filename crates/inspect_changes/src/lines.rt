@@ -1,6 +1,6 @@
 //! The lines of ways.
-ghost use Rattle.std.specs.Prelude.{◌≡◌, ◌++◌, ℕ, List, Some, IfOk, OnOk, codes, decimal, string_bytes};
-ghost use Rattle.report.specs.Lists.{list_text, more_text};
+ghost use Rattle.std.specs.Prelude.{◌≡◌, ◌++◌, Some, IfOk, OnOk, codes, decimal, string_bytes};
+ghost use Rattle.report.specs.Lists.{more_text};
 ghost use Rattle.report.specs.Objects.{range_text};
 ghost use Rattle.report.specs.Outcomes.{services_text};
 ghost use Rattle.inspect_changes.specs.Lines.{passage_text, protocols_text, region_text, way_line};

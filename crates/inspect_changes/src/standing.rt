@@ -1,6 +1,5 @@
 //! The networks that stand in two configurations, and which of them are kept.
-ghost use Rattle.std.specs.Prelude.{◌≡◌, ◌==◌, ◌&&◌, ◌++◌, length, map, nat_eq, nat_le, option_copied, IfOk, IsTrue, OnOk};
-ghost use Rattle.std.specs.Cmp.Lexicographic.{pointwise};
+ghost use Rattle.std.specs.Prelude.{◌≡◌, ◌==◌, ◌&&◌, ◌++◌, map, IfOk, OnOk};
 ghost use Rattle.std.specs.List.{list_all, zip};
 ghost use Rattle.config_types.specs.contracts.config.PolicyPartialEq.TheImpl as policy_equality;
 ghost use Rattle.config_check.specs.Finding.{network_named};

@@ -18,7 +18,7 @@ use Rattle.serde_json.specs.Read.{of_json, of_items, of_members, read, max_depth
 use Rattle.serde_json.specs.Written.{outline, items_outline, members_outline, compact_text, items_text, members_text, comma_if}
 use Rattle.serde_json.proofs.Numbers.{number_of-decimal}
 use Rattle.serde_json.proofs.Texts.{print-outline}
-use Rattle.ov_json.proofs.JsonLaws.{json_of_text}
+use Rattle.ov_io.proofs.JsonLaws.{json_of_text}
 use Rattle.inspect_json.specs.Form.{IsReadBack}
 pub use Rattle.inspect_json.proofs.Fits.{AreFit, HasFit, IsFit, read_one_by_one}
 use Rattle.inspect_json.proofs.OneLine.{one_line}

@@ -1,5 +1,5 @@
 //! The rules that are asked between two networks.
-ghost use Rattle.std.specs.Prelude.{◌≡◌, ◌++◌, IfOk, OnOk};
+ghost use Rattle.std.specs.Prelude.{◌≡◌, ◌++◌, OnOk};
 ghost use Rattle.policy_rules.specs.Matching.{deciding};
 ghost use Rattle.inspect_rules.specs.Causes.{asked, decided, leading, policy_of, skipped};
 

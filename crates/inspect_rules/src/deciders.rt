@@ -1,12 +1,10 @@
 //! The rules that decide on packets between networks.
-ghost use Rattle.std.specs.Prelude.{◌≡◌, ◌||◌, ◌&&◌, ◌∷◌, [], ℕ, nat_le, false, not, OnOk, IfOk};
+ghost use Rattle.std.specs.Prelude.{◌≡◌, ◌||◌, ◌&&◌, ◌∷◌, [], OnOk, IfOk};
 ghost use Rattle.std.specs.List.{list_any};
-ghost use Rattle.ov_types.specs.First.{same_name};
 ghost use Rattle.ov_types.specs.declared.packet.RuleNo.{RuleNo as Number};
 ghost use Rattle.policy_regions.specs.Carved.{left_after};
-ghost use Rattle.policy_regions.specs.Claims.{claims_between};
 ghost use Rattle.inspect_rules.specs.Deciders.{claim_decides, claims_decide, decides_between, decides_from, decides_some};
-ghost use Rattle.inspect_rules.specs.Deciders.{has_one_to, has_rule, holds_some, same_rule};
+ghost use Rattle.inspect_rules.specs.Deciders.{has_one_to, has_rule, holds_some};
 
 use config_check::Valid;
 use config_types::Network;

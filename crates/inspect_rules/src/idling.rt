@@ -2,7 +2,7 @@
 ghost use Rattle.std.specs.Prelude.{◌≡◌, ◌++◌, flat_map, IfOk, OnOk};
 ghost use Rattle.policy_rules.specs.Related.{all_rules};
 ghost use Rattle.inspect_rules.specs.Deciders.{has_rule};
-ghost use Rattle.inspect_rules.specs.Idle.{idle, idle_chain, idle_policy, idle_rule, policy_if, rule_unless};
+ghost use Rattle.inspect_rules.specs.Idle.{idle, idle_chain, idle_policy, idle_rule, rule_unless};
 
 use crate::deciders::deciders;
 use crate::idle::Idle;

@@ -1,9 +1,9 @@
 //! Agents with the rows that are compiled for them.
-ghost use Rattle.std.specs.Prelude.{◌≡◌, ◌++◌, ◌∷◌, [], map, option_copied, IfOk, OnOk};
+ghost use Rattle.std.specs.Prelude.{◌≡◌, ◌++◌, ◌∷◌, [], option_copied, IfOk, OnOk};
 ghost use Rattle.std.specs.List.{filter_map};
 ghost use Rattle.ov_types.specs.Routing.{longest};
 ghost use Rattle.route_targets.specs.Forwarding.{agent_at, route_in};
-ghost use Rattle.transform_model.specs.Compiled.{agent_rows, compiled_tables, forwarders};
+ghost use Rattle.transform_model.specs.Compiled.{compiled_tables};
 ghost use Rattle.inspect_walks.specs.Ordered.{AreOrdered};
 ghost use Rattle.inspect_walks.specs.Walks.{compiled_agents};
 

@@ -1,8 +1,6 @@
 //! What walks promise, as laws: each is the contract of a function that does nothing.
-ghost use Rattle.std.specs.Prelude.{◌≡◌, ◌++◌, ◌∷◌, [], ℕ, List, None, IsTrue};
-ghost use Rattle.ov_types.specs.declared.packet.Outcome.{Outcome};
+ghost use Rattle.std.specs.Prelude.{◌≡◌, None, IsTrue};
 ghost use Rattle.ov_types.specs.declared.packet.Packet.{Packet};
-ghost use Rattle.route_targets.specs.Forwarding.{Forwarder, forwarding};
 ghost use Rattle.config_types.specs.Form.{has_config_form};
 ghost use Rattle.config_check.specs.Checked.{Checked};
 ghost use Rattle.config_check.specs.Rules.{first_broken};

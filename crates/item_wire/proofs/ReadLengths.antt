@@ -9,7 +9,7 @@ use Rattle.item_wire.specs.declared.item.Item.{Item}
 use Rattle.item_wire.specs.declared.fault.ItemRefusal.{ItemRefusal}
 use Rattle.item_wire.specs.Faults.{◌>>=◌, wanted, Gives}
 use Rattle.item_wire.specs.Ranges.{is_in_range}
-use Rattle.ov_json.specs.Json.{json_of}
+use Rattle.ov_io.specs.Json.{json_of}
 use Rattle.item_wire.specs.Reading.{item_of, item_in}
 use Rattle.item_wire.specs.Records.{json_text}
 use Rattle.item_wire.proofs.Weights.{json_weight}

@@ -25,10 +25,10 @@ use Rattle.item_wire.specs.declared.item.Item.{Item}
 use Rattle.item_wire.specs.declared.item.Item.TheVariants as I
 use Rattle.item_wire.specs.Entries.{is_from_to}
 use Rattle.item_wire.specs.Ranges.{is_network, is_instance, is_attached_label, is_address, is_node_address, is_block, is_import, is_hop, is_protocol, are_ports, is_action, is_rule_number, is_rule, is_in_range}
-use Rattle.ov_json.specs.Json.{json_of}
+use Rattle.ov_io.specs.Json.{json_of}
 use Rattle.item_wire.specs.Reading.{item_in}
 use Rattle.item_wire.specs.Records.{prefix_record, import_record, hop_record, protocol_record, action_record, rule_record, record_of, json_text, spelling}
-use Rattle.ov_json.proofs.JsonLaws.{json_of_text}
+use Rattle.ov_io.proofs.JsonLaws.{json_of_text}
 use Rattle.item_wire.proofs.Plain.{IsPlain, ArePlain, PlainMembers, read_one_by_one, object_is_text, object_is_read}
 use Rattle.item_wire.proofs.Read.{item_is_read}
 

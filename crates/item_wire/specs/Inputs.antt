@@ -56,7 +56,7 @@ may_send Nothing i = false
 abbrev pub came_by_hello : List ℕ → List ℕ → Came
 came_by_hello peer name = if pointwise nat_eq name peer then Comes.Hello else Comes.BadRecord WrongName
 
--- another record is of the direction, or a bad one
+-- a record that is no hello is of the direction, or a bad one
 abbrev pub came_by_other : ItemFrom → Item → Came
 came_by_other from i = if may_send from i then Comes.OtherRecord i else Comes.BadRecord Order
 

@@ -3,7 +3,7 @@ use Rattle.std.specs.Prelude.{ℕ, List, nat_eq, codes, Option, Some, None, Resu
 use Rattle.std.specs.Cmp.Lexicographic.{pointwise}
 use Rattle.serde_json.specs.Data.{Data}
 use Rattle.serde_json.specs.Find.{as_str}
-use Rattle.ov_json.specs.Json.{json_of}
+use Rattle.ov_io.specs.Json.{json_of}
 use Rattle.ov_types.specs.Prefix.{Block}
 use Rattle.ov_types.specs.declared.prefix.Addr.{Addr}
 use Rattle.item_wire.specs.declared.fault.Field.{Field}

@@ -129,7 +129,7 @@ has_lists (I.Acl from rules subnets to) = true
 has_lists (I.Use hops left left_prefixes right right_prefixes use_no) = true
 has_lists i = false
 
--- its one spelling in JSON, without spaces, and on a link
+-- the one spelling of an item in JSON, without spaces, and on a link
 abbrev pub json_text : Item → List ℕ
 json_text i = compact_text (record_of i)
 

@@ -16,7 +16,7 @@ abbrev pub in_idle : Came → Step
 in_idle Comes.Opened = (Is.Opened, SendHello)
 in_idle _ = (Is.Idle, Quiet)
 
--- then it waits for the hello of the other end; a record before it is out of order
+-- a session that was opened waits for the hello of the other end; a record before it is out of order
 abbrev pub in_opened : Came → Step
 in_opened Comes.Opened = (Is.Opened, Quiet)
 in_opened Comes.Hello = (Is.Up, Up)
@@ -24,7 +24,7 @@ in_opened (Comes.BadRecord cause) = (Is.Idle, Down cause)
 in_opened (Comes.OtherRecord i) = (Is.Idle, Down Order)
 in_opened Comes.Closed = (Is.Idle, Down Ended)
 
--- then it hands out the records of its direction; a second hello is out of order
+-- a session that is up hands out the records of its direction; a second hello is out of order
 abbrev pub in_up : Came → Step
 in_up Comes.Opened = (Is.Up, Quiet)
 in_up Comes.Hello = (Is.Idle, Down Order)

@@ -36,7 +36,7 @@ pub enum Field {
 /// What is wrong with octets that are no record.
 #[derive(Clone, Copy, Debug, PartialEq, Eq, Error)]
 pub enum ItemFault {
-    /// They are no JSON.
+    /// The octets are no JSON.
     #[error("no JSON")]
     NotJson,
     /// The member is missing, or of another kind.

@@ -68,7 +68,7 @@ pub enum Item {
         instance: InstanceId,
         prefix: Prefix,
     },
-    /// This node wants the routes of an instance.
+    /// The node that sends the record wants the routes of an instance.
     Subscribe {
         instance: InstanceId,
     },

@@ -20,7 +20,7 @@ use crate::field::{
 use crate::item::Item;
 use crate::list::Count;
 use crate::op::{Op, op_in};
-use ov_json::value_of;
+use ov_io::value_of;
 use ov_types::{AclRule, Addr, InstanceId, Label, PortNo, Prefix, ServiceNo};
 use serde_json::Value;
 use std::alloc::Global;

@@ -1,5 +1,5 @@
 //! Which networks ties call related, and which of several broken ties is named. Laws alone.
-ghost use Rattle.std.specs.Prelude.{◌≡◌, ◌≢◌, ◌⊎◌, ◌↔◌, ℕ, List, Some};
+ghost use Rattle.std.specs.Prelude.{◌≡◌, ◌≢◌, ◌↔◌, ℕ, Some};
 ghost use Rattle.std.specs.List.{Contains};
 ghost use Rattle.ov_types.specs.declared.numbers.InstanceId.{InstanceId};
 ghost use Rattle.ov_types.specs.declared.numbers.PortNo.{PortNo};

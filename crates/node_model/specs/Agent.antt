@@ -30,7 +30,7 @@ pub record Heard : Type 0 where
   pub is_up : Bool
   pub map : Map
 
--- its sessions, in the order in which it lists its control nodes
+-- what an agent holds: its sessions, in the order in which it lists its control nodes
 abbrev pub Holdings : Type 0
 Holdings = List Heard
 
@@ -105,7 +105,7 @@ abbrev pub acl_entry : LowKey → LowValue → Option (LowKey × LowValue)
 acl_entry (key.Acl from to) v = Some (key.Acl from to, v)
 acl_entry _ v = None
 
--- its rows
+-- the rows that an agent forwards by
 abbrev pub rows : Holdings → AgentRows
 rows h = record {
   labels = filter_map (λ e. attached e.0 e.1) (slice_in_use h);
@@ -113,7 +113,7 @@ rows h = record {
   routes = routes h;
 }
 
--- ---- the same, as relations
+-- ---- what an agent holds and wants, said as relations
 -- what was heard besides rows: which sessions are up, and the objects of each
 abbrev pub besides_rows : Holdings → List (Bool × List (LowKey × LowValue))
 besides_rows h = map (λ s. (s.is_up, objects s.map)) h

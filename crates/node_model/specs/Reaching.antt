@@ -106,7 +106,7 @@ reoriginated_by test h = flat_map (λ s. flat_map (into test h s) (below s.chain
 abbrev pub reoriginated_paths : Holdings → List Path
 reoriginated_paths h = reoriginated_by (is_up h) h
 
--- ---- the same, as relations
+-- ---- what is reached and led on, said as relations
 -- a path within the subnet was received at some place between the end and place d, and every circuit on the way from
 -- place d to there is published here
 pub record IsReached (h : Holdings) (s : Side) (subnet : Block) (d : ℕ) : Type 0 where

@@ -65,7 +65,7 @@ abbrev pub is_place : ℕ → Option Use → Bool
 is_place j None = false
 is_place j (Some u) = nat_le j u.services
 
--- those of held networks, and those of the places of held uses
+-- the known instances: those of held networks, and those of the places of held uses
 abbrev pub is_known : Map → InstanceId → Bool
 is_known feed i =
     if is_hop i then is_place (place_of i) (held_use feed i)
@@ -89,7 +89,7 @@ imports feed i =
     if is_hop i then hop_imports (place_of i) (held_use feed i)
     else network_imports (object feed (key.Instance i.0))
 
--- ---- the same, as a relation
+-- ---- imports, said as a relation
 -- what is imported at place j of a use: the place itself, the left network exactly at the left end, the right network
 -- exactly at the right end
 abbrev pub IsImportedAt : Use → ℕ → InstanceId → Type 0

@@ -10,13 +10,13 @@ use Rattle.ov_types.specs.contracts.numbers.LabelPartialEq.TheImpl as labels
 use Rattle.ov_types.specs.contracts.vpn.VpnRoutePartialEq.TheImpl as routes
 
 pub data Value : Type 0 where
-  -- of a low-level object
+  -- the value of a low-level object
   Object : LowValue → Value
-  -- of a route between control nodes
+  -- the value of a route between control nodes
   Route : VpnRoute → Value
-  -- of a row
+  -- the value of a row
   Entry : RouteEntry → Value
-  -- of a publication. A subscription has label 0, which nothing reads
+  -- the value of a publication. A subscription has label 0, which nothing reads
   Label : LabelNo → Value
 
 -- whether two values are equal

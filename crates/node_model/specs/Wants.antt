@@ -27,8 +27,9 @@ route_entry p = (
   Route (record { next_hop = p.next_hop; label = p.label; targets = p.targets }),
 )
 
--- its own and its re-originated routes. Where two have one key, the first counts: an own route before a re-originated
--- one, the lower session before the higher, a right subnet's before a left's
+-- what peers are to be told: a control node's own and its re-originated routes. Where two have one key, the first
+-- counts: an own route before a re-originated one, the lower session before the higher, a right subnet's before a
+-- left's
 abbrev pub wanted_by_peers : Holdings → Map
 wanted_by_peers h = from_entries (map route_entry (own_paths h ++ reoriginated_paths h))
 
@@ -69,12 +70,12 @@ abbrev pub rows_of : Holdings → InstanceId → List (Key × Value)
 rows_of h i =
     map (λ e. (Row i e.0, Entry (record { next_hop = e.1.next_hop; label = e.1.label }))) (entries (table h i))
 
--- its slice, and the rows of the instances that it subscribed
+-- what an agent is to be told: its slice, and the rows of the instances that it subscribed
 abbrev pub wanted_by_agent : Holdings → Told → Map
 wanted_by_agent h a =
     from_entries (map slice_entry (slice h.feed a.address) ++ flat_map (rows_of h) (subscriptions a.map))
 
--- ---- the same, as relations
+-- ---- slices and wants, said as relations
 -- an attachment at this address
 abbrev pub IsAttachedAt : Addr → LowValue → Type 0
 IsAttachedAt address (low.AttachPort port instance host node) = node ≡ address

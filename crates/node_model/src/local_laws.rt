@@ -35,7 +35,7 @@ pub fn wants_towards_agents_are_local()
         → Agree (longest + 4) h g → (a : Told) → wanted_by_agent h a ≡ wanted_by_agent g a }
 {}
 
-/// Of an agent: what it wants depends on which sessions are up, and on the objects of their slices alone.
+/// What an agent wants depends on which of its sessions are up, and on the objects of their slices alone.
 pub fn wants_of_agents_are_local()
     ensures { (h g : agent.Holdings) → AllZip SameSlice h g → agent.wanted h ≡ agent.wanted g }
 {}

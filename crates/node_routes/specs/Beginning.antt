@@ -46,8 +46,8 @@ Begins id s p (input.Bytes session bytes) given cause =
     × (cause ≡ (heard id s inputs).cause)
 Begins id s p (input.Closed session) given cause = (given ≡ record { replies = []; after = None }) × (cause ≡ None)
 
--- the same, where these octets were kept of the session before: they are heard again before those that came. And what
--- is kept of it then
+-- what an input makes of an end where these octets were kept of the session before: they are heard again before those
+-- that came. And what is kept of it then
 abbrev pub BeginsKeeping : Addr → SessionFields → Post → List ℕ → Input → Beginning → Option Cause → List ℕ → Type 0
 BeginsKeeping id s p kept (input.Bytes session bytes) given cause left =
     (inputs : List Came) × Leaves s (kept ++ bytes.now) inputs left

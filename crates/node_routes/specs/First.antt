@@ -20,7 +20,7 @@ pub record RouteFitsItsTypes (r : VpnRoute) : Type 0 where
   pub next_hop : r.next_hop.0 < 2 ^ 32
   pub ascending : IsAscending r.targets
 
--- and of a change
+-- what holds of a change of a route by its types
 abbrev pub ChangeFitsItsTypes : Delta VpnKey VpnRoute → Type 0
 ChangeFitsItsTypes (Put k r) = FitsItsTypes k × RouteFitsItsTypes r
 ChangeFitsItsTypes (Drop k) = FitsItsTypes k

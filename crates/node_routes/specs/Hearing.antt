@@ -26,7 +26,7 @@ pub record IsMessageNext (s : SessionFields) (octets : List ℕ) (came : Came) (
   pub brings : Brings s.asn s.peer.address s.wide content came
   pub rest_is : rest ≡ drop length octets
 
--- they begin with none, and have this fault
+-- the octets begin with no message, and have this fault
 pub record IsFaultNext (octets : List ℕ) (came : Came) (rest : List ℕ) : Type 0 where
   pub fault : WireFault
   pub has : HasFault octets fault

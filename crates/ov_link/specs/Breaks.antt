@@ -11,7 +11,7 @@ abbrev pub counted : List ℕ → List ℕ
 counted [] = []
 counted (n ∷ breaks) = if nat_le n 1 then counted breaks else (n - 1) ∷ counted breaks
 
--- with one more send that is to fail
+-- the breaks with one more send that is to fail
 abbrev pub with_break : ℕ → List ℕ → List ℕ
 with_break n breaks = if is_break breaks n then breaks else breaks ++ n ∷ []
 

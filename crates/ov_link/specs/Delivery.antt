@@ -30,7 +30,7 @@ module _ {L : Type 0} (accepted : L → Option (List (List ℕ))) (breaks : L �
     pub rose : failed ≡ true → (faults before ≤ faults after) × Rose (faults before) (faults after)
     pub still : failed ≡ false → faults after ≡ faults before
 
-  -- it took the first of these messages, as many as it chose, and failed if it did not take all
+  -- a link took the first of these messages, as many as it chose, and failed if it did not take all
   pub record Delivers (planned : List (List ℕ)) (failed : Bool) (before after : L) : Type 0 where
     pub count : ℕ
     pub within : count ≤ length planned

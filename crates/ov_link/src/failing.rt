@@ -60,7 +60,7 @@ impl FailingLink {
         self.queue.front()
     }
 
-    /// How many messages it keeps.
+    /// How many messages the link keeps.
     pub fn len(&self) -> usize
         ensures { result ≡ length self.now.accepted }
     {

@@ -39,7 +39,7 @@ impl Inbox {
         Ok(())
     }
 
-    /// All octets that it holds. It takes no memory.
+    /// All octets that the inbox holds. No memory is taken.
     pub fn octets(&self) -> &[u8]
         ensures { result.now ≡ self.now }
     {

@@ -6,7 +6,7 @@ use thiserror::Error;
 pub enum Input<'a> {
     /// The session was opened at this end.
     Opened { session: u16 },
-    /// These octets came on it.
+    /// Octets came on the session.
     Bytes { session: u16, bytes: &'a [u8] },
     /// The session was closed, or lost.
     Closed { session: u16 },

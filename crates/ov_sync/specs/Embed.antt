@@ -13,7 +13,7 @@ module _ {K L V W : Type 0} (f : K → L) (g : V → W) where
   moved_delta (Put k v) = Put (f k) (g v)
   moved_delta (Drop k) = Drop (f k)
 
--- the same map, with each key and value as f and g have them
+-- a keyed map under other keys, with each key and value as f and g have them
 abbrev pub embedded : {K L V W : Type 0} {R : K → K → Ordering} {S : L → L → Ordering} → (K → L) → (V → W) → FinMap R V
     → FinMap S W
 embedded f g m = from_entries (map (moved_entry f g) (entries m))

@@ -6,3 +6,6 @@ pub mod FirstLemmas
 pub mod Addresses
 pub mod Lengths
 pub mod OneText
+mod Cutting
+mod Hexadecimal
+mod Told

@@ -41,13 +41,13 @@ access_by network address (Key.Acl from to) (Value.Acl subnets rules) =
     then Some (record { to = to; rules = rules }) else None
 access_by network address _ _ = None
 
--- of two the one that leads to the lesser network
+-- the one of two access lists that leads to the lesser network
 abbrev pub lesser : Option Access → Option Access → Option Access
 lesser None y = y
 lesser (Some x) None = Some x
 lesser (Some x) (Some y) = if nat_le x.to y.to then Some x else Some y
 
--- of the access lists of a network whose subnets hold an address, the one that leads to the least network
+-- the access list that leads to the least network, among those of a network whose subnets hold an address
 abbrev pub access_towards : ℕ → ℕ → List (LowKey × LowValue) → Option Access
 access_towards network address [] = None
 access_towards network address (e ∷ es) = lesser (access_by network address e.0 e.1) (access_towards network address es)

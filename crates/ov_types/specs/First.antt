@@ -23,6 +23,6 @@ meeting_after meets before [] = None
 meeting_after meets before (x ∷ xs) =
     option_map (λ b. (b, x)) (find (λ b. meets b x) before) <|> meeting_after meets (before ++ x ∷ []) xs
 
--- the same in a whole list: the earlier item, and the later
+-- the first two items of a list that meet: the earlier item, and the later
 abbrev pub first_meeting : {A : Type 0} → (A → A → Bool) → List A → Option (A × A)
 first_meeting meets xs = meeting_after meets [] xs

@@ -1,13 +1,14 @@
 pub mod Counts
 pub mod First
+pub mod Prefix
 pub mod Keys
 pub mod Name
-pub mod Prefix
+pub mod Texts
 pub mod Rows
 pub mod Targets
-pub mod Texts
 pub mod Access
 pub mod Routing
 pub mod Written
 pub mod OneText
 pub mod Bounds
+pub mod Telling

@@ -2,7 +2,7 @@
 use Rattle.std.specs.Prelude.{ℕ, nat_le, List, [], ◌∷◌, Option, Some, None, if◌then◌else◌}
 use Rattle.ov_types.specs.Prefix.{Block, contains}
 
--- of two routes the one of the longer prefix
+-- the one of two routes with the longer prefix
 abbrev pub longer : {A : Type 0} → Block × A → Option (Block × A) → Option (Block × A)
 longer r None = Some r
 longer r (Some s) = if nat_le s.0.len r.0.len then Some r else Some s

@@ -1,5 +1,7 @@
-//! What comparisons and copies mean, as laws: each is the contract of a function that does nothing.
-ghost use Rattle.std.specs.Prelude.{◌≡◌, ◌↔◌, IsTrue, List};
+//! What comparisons and copies mean, which texts tell numbers apart, and what it means that a count of faults rose, on which
+//! the causes of all faults of reading, writing and sending rest: laws, each of them the contract of a function that does
+//! nothing.
+ghost use Rattle.std.specs.Prelude.{◌≡◌, ◌↔◌, ◌⊎◌, ◌<◌, ◌^◌, ◌-◌, ℕ, IsTrue, List};
 ghost use Rattle.ov_types.specs.Prefix.{Block, block_cmp};
 ghost use Rattle.ov_types.specs.Keys.{low_key_cmp, down_key_cmp, up_key_cmp};
 ghost use Rattle.ov_types.specs.OneText.{AddressHasOneText, PrefixHasOneText, NameIsItsText};
@@ -12,6 +14,10 @@ ghost use Rattle.ov_types.specs.declared.rows.AgentRows.{AgentRows as Rows};
 ghost use Rattle.ov_types.specs.declared.rows.Entry.{Entry as RouteEntry};
 ghost use Rattle.ov_types.specs.declared.targets.Target.{Target as Number};
 ghost use Rattle.ov_types.specs.declared.vpn.VpnRoute.{VpnRoute as Route};
+ghost use Rattle.ov_types.specs.Counts.{Rose};
+ghost use Rattle.ov_types.specs.Targets.{is_target};
+ghost use Rattle.ov_types.specs.Texts.{distinguisher_text, target_text};
+ghost use Rattle.ov_types.specs.Telling.{DifferInTheirSubtype};
 
 use crate::keys::{DownKey, UpKey};
 use crate::objects::{AclRule, LowKey, LowValue};
@@ -52,4 +58,24 @@ pub fn texts_are_one()
     ensures address { AddressHasOneText }
     ensures prefix { PrefixHasOneText }
     ensures name { NameIsItsText }
+{}
+
+/// Two distinguishers have two texts.
+pub fn distinguishers_are_told_apart()
+    ensures { (m n : ℕ) → m < 2 ^ 64 → n < 2 ^ 64 → distinguisher_text m ≡ distinguisher_text n → m ≡ n }
+{}
+
+/// Two targets, whatever their eight octets are, have one text exactly where they are of one type that has a form of its own
+/// and differ in nothing but their subtype, which these forms do not show. Two route targets have two texts.
+pub fn targets_are_told_apart()
+    ensures exactly { (m n : ℕ) → m < 2 ^ 64 → n < 2 ^ 64
+        → (target_text m ≡ target_text n) ↔ ((m ≡ n) ⊎ DifferInTheirSubtype m n) }
+    ensures route_targets { (m n : ℕ) → m < 2 ^ 64 → n < 2 ^ 64 → IsTrue (is_target m) → IsTrue (is_target n)
+        → target_text m ≡ target_text n → m ≡ n }
+{}
+
+/// A count rose exactly where it grew, or stands at the last value, past which it does not count.
+pub fn counts_rise_where_they_grow()
+    ensures { (before now : ℕ) → before < 2 ^ 64 → now < 2 ^ 64
+        → Rose before now ↔ ((before < now) ⊎ (now ≡ 2 ^ 64 - 1)) }
 {}

@@ -59,7 +59,7 @@ impl Prefix {
         self.addr
     }
 
-    /// How many bits its addresses share.
+    /// How many bits the addresses of the prefix share.
     pub fn len(&self) -> u8
         ensures len { result ≡ self.now.len }
         ensures at_most { result ≤ 32 }

@@ -6,11 +6,11 @@ use crate::packet::RuleNo;
 /// where no entry held the packet.
 #[derive(Clone, Copy, Debug, PartialEq, Eq)]
 pub enum Verdict {
-    /// It goes on in its network's instance.
+    /// The packet goes on in its network's instance.
     Pass,
-    /// It goes on in this instance.
+    /// The packet goes on in this instance.
     Enter(InstanceId),
     Denied { rule: Option<RuleNo> },
-    /// No list of its network holds where it goes.
+    /// No list of the packet's network holds where it goes.
     NoDestination,
 }

@@ -10,14 +10,14 @@ use ov_types::{Addr, Attached, Entry, InstanceId, Label, Packet, Verdict};
 /// An agent that forwards packets by its labels, its access lists and its routes. Each circuit among its labels is one
 /// of a use, from 32769 to 131070.
 pub trait Vrouter {
-    /// Its address, and the rows by which it forwards.
+    /// The agent's address, and the rows by which it forwards.
     ghost forwarder: { Self → Forwarder };
 
-    /// The address of its node.
+    /// The address of the agent's node.
     fn address(&self) -> Addr
         ensures { result ≡ (forwarder self.now).address };
 
-    /// What is under a label. There is nothing exactly where the label is not among its labels.
+    /// What is under a label. There is nothing exactly where the label is not among the agent's labels.
     fn find(&self, label: Label) -> Option<Attached>
         ensures found { result ≡ attached (forwarder self.now).rows label }
         ensures circuits { All (λ e. IsOfAUse e.1) (forwarder self.now).rows.labels };
@@ -28,7 +28,7 @@ pub trait Vrouter {
         ensures same { forwarder self.new ≡ forwarder self.old }
         ensures kept { self.new ≡ self.old };
 
-    /// Where its routes of an instance lead an address. There is nothing exactly where none of them contains it.
+    /// Where the agent's routes of an instance lead an address: nowhere exactly where none of them contains it.
     fn route(&self, i: InstanceId, a: Addr) -> Option<Entry>
         ensures { result ≡ looked_up (forwarder self.now).rows i a.0 };
 }

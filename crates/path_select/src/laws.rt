@@ -14,7 +14,7 @@ pub fn the_order_is_strict_and_total()
     ensures total { (a b : PathValue) → a ≢ b → IsTrue (is_better a b) ⊎ IsTrue (is_better b a) }
 {}
 
-/// It is the order of the paths that control nodes receive.
+/// The order of paths is that of the paths that control nodes receive.
 pub fn the_order_is_that_of_received_paths()
     ensures { (p q : model.Path) → is_better (plain p) (plain q) ≡ tables.is_better p q }
 {}

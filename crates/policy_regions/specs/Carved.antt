@@ -21,7 +21,8 @@ taken_by claim r =
 abbrev pub undecided : Region → DecidedRegion
 undecided r = record { region = r; decision = None; effect = Drops }
 
--- of what is left each claim takes its part, and on what is left at the end no rule decides; each part is joined by itself
+-- each claim takes its part of what is left, and on what is left at the end no rule decides; each part is joined by
+-- itself
 abbrev pub carve : List Claim → List Region → List DecidedRegion
 carve [] left = joined (map undecided left)
 carve (c ∷ cs) left = joined (flat_map (taken_by c) left) ++ carve cs (flat_map (left_by c.region) left)

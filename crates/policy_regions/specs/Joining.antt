@@ -14,7 +14,7 @@ abbrev pub agree : Bool → Bool → Bool
 agree true b = b
 agree false b = not b
 
--- the same rule, matched the same way, or no rule at all
+-- two decisions are by the same rule, matched the same way, or both by no rule at all
 abbrev pub same_decision : Option Decision → Option Decision → Bool
 same_decision None None = true
 same_decision None (Some e) = false

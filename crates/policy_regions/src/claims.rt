@@ -33,7 +33,7 @@ fn effect_of(action: &Action) -> Effect
     }
 }
 
-/// The packets that go as the rule is written.
+/// The region of the packets that go as a rule is written.
 fn forward_region(rule: &NumberedRule) -> Region
     ensures { result ≡ (forward_claim rule.now).region }
 {
@@ -44,7 +44,7 @@ fn forward_region(rule: &NumberedRule) -> Region
     }
 }
 
-/// The answers to those packets.
+/// The region of the answers to the packets of a rule.
 fn mirrored_region(rule: &NumberedRule) -> Region
     ensures { result ≡ (mirrored_claim rule.now).region }
 {

@@ -2,7 +2,7 @@
 ghost use Rattle.std.specs.Prelude.{◌≡◌, ◌&&◌, ◌++◌, ◌∷◌, [], List, IfOk, OnOk, is_none};
 ghost use Rattle.std.specs.List.{list_all};
 ghost use Rattle.policy_regions.specs.declared.region.DecidedRegion.{DecidedRegion};
-ghost use Rattle.ov_types.specs.First.{◌<|>◌, same_name};
+ghost use Rattle.ov_types.specs.First.{◌<|>◌};
 ghost use Rattle.policy_regions.specs.Joining.{all_among, among, both_ranges, box_of, goes_on, joined, joint_box};
 ghost use Rattle.policy_regions.specs.Joining.{same_decision, same_effect, same_range, say_the_same};
 

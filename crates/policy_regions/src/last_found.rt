@@ -85,7 +85,7 @@ impl LastFound {
     }
 
     /// Finds the regions between two networks, as `regions_between` does. Where the rules between them claim the same
-    /// as those between the two networks before, the regions are there already.
+    /// as between the two networks of the last call, the regions are there already.
     pub fn find(
         &mut self,
         alloc: Global,
@@ -101,7 +101,8 @@ impl LastFound {
         self.find_by(alloc, claims)
     }
 
-    /// Finds the regions that claims make. Where they are the same as those before, the regions are there already.
+    /// Finds the regions that claims make. Where the claims are the same as at the last call, the regions are there
+    /// already.
     pub fn find_by(&mut self, alloc: Global, claims: Vec<Claim>) -> Result<(), NoMemory>
         ensures regions { OnOk result (self.new ≡ joined (carve claims.items (everything ∷ []))) }
         ensures kept { OnErr result (self.new ≡ self.old) }

@@ -68,8 +68,8 @@ impl LastLaid {
         found(alloc, Vec::new(alloc), Vec::new(alloc))
     }
 
-    /// Finds what the regions have in common that claims before and after make. Where both are the same as the last time,
-    /// that is there already.
+    /// Finds what the regions that claims before and after a change make have in common. Where both lists of claims are
+    /// the same as at the last call, the answer is there already.
     pub fn find(
         &mut self,
         alloc: Global,

@@ -24,7 +24,7 @@ pub(crate) fn attached_policies<'a>(
     Ok(attached)
 }
 
-/// Of policies those that a network attaches, in their order.
+/// The policies that a network attaches, in their order.
 fn attached_of<'a>(
     alloc: Global,
     policies: &[&'a Policy],
@@ -50,7 +50,7 @@ fn by_sequence<'a>(mut policies: Vec<&'a Policy>) -> Result<Vec<&'a Policy>, NoM
     Ok(policies)
 }
 
-/// Of policies those that a network attaches, by sequence.
+/// The policies that a network attaches, by sequence.
 pub(crate) fn shared_policies<'a>(
     alloc: Global,
     policies: &[&'a Policy],

@@ -12,7 +12,7 @@ abbrev pub match_in : Network → Network → Tuple → Policy → Option Match
 match_in from to t p =
     if attaches from p && attaches to p then first_of (match_by from to t) (numbered_rules p) else None
 
--- of two matches the one with the lesser sequence, and of the same sequence the earlier
+-- the one of two matches with the lesser sequence, and the earlier where both have one
 abbrev pub least : Option Match → Option Match → Option Match
 least None later = later
 least (Some a) None = Some a

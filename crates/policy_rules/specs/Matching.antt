@@ -49,6 +49,6 @@ deciding c from to t = first_of (match_by from to t) (rules_between c from to)
 abbrev pub decision_by : Match → Decision
 decision_by m = record { rule = m.rule.number; mirrored = m.mirrored }
 
--- its number, and whether it matches mirrored
+-- the number of the deciding rule, and whether it matches mirrored
 abbrev pub decision : Config → Network → Network → Tuple → Option Decision
 decision c from to t = option_map decision_by (deciding c from to t)

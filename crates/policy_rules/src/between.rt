@@ -10,9 +10,9 @@ use config_types::{Action, Config, Network, Policy, Rule};
 /// What is wanted of a rule between two networks.
 #[derive(Clone, Copy, PartialEq, Eq)]
 enum Wanted {
-    /// It passes packets.
+    /// The rule passes packets.
     Passing,
-    /// It passes packets, or leads them through a chain.
+    /// The rule passes packets, or leads them through a chain.
     LettingThrough,
 }
 
@@ -38,7 +38,7 @@ fn some_rule_serves(wanted: Wanted, a: &Network, b: &Network, rules: &[Rule]) ->
     rules.iter().any(|rule| serves(wanted, a, b, rule))
 }
 
-/// Whether two networks attach a policy with such a rule.
+/// Whether two networks attach a policy that has a rule between them which does what is wanted.
 fn joins(wanted: Wanted, a: &Network, b: &Network, policy: &Policy) -> bool
     ensures { result ≡ joins wanted a.now b.now policy.now }
 {

@@ -50,7 +50,7 @@ fn match_in(policy: &Policy, from: &Network, to: &Network, tuple: &Tuple) -> Opt
     first_match(policy, from, to, tuple)
 }
 
-/// Of two matches the one with the lesser sequence, and of the same sequence the earlier.
+/// The one of two matches that has the lesser sequence, and the earlier where both have one.
 fn least(earlier: Option<Match>, later: Option<Match>) -> Option<Match>
     ensures { result ≡ least earlier later }
 {

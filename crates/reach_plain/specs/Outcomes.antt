@@ -126,7 +126,7 @@ IsDropped c p NoRoute = HasNoRoute c p
 IsDropped c p NoLabel = ⊥
 IsDropped c p TtlExpired = ⊥
 
--- this becomes of a packet
+-- an outcome is what becomes of a packet
 abbrev pub Becomes : Config → Packet → Outcome → Type 0
 Becomes c p (Delivered number services) = IsDelivered c p number services
 Becomes c p (Dropped why) = IsDropped c p why

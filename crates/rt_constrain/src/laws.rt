@@ -1,16 +1,15 @@
 //! Laws of what is asked and needed: each is the contract of a function that does nothing.
-ghost use Rattle.std.specs.Prelude.{◌≡◌, ◌⊎◌, ◌↔◌, true, List, map};
+ghost use Rattle.std.specs.Prelude.{◌≡◌, ◌↔◌, true, List};
 ghost use Rattle.std.specs.List.Sorted.{IsStrictlySortedBy};
 ghost use Rattle.ov_types.specs.declared.numbers.InstanceId.{InstanceId};
 ghost use Rattle.ov_types.specs.declared.vpn.VpnRoute.{VpnRoute};
 ghost use Rattle.node_model.specs.Members.{Member};
 ghost use Rattle.node_model.specs.Paths.{Holdings};
-ghost use Rattle.node_model.specs.Uses.{imports};
 ghost use Rattle.rt_constrain.specs.Needs.{IsNeeded};
 ghost use Rattle.rt_membership.specs.declared.asked.Asked.{Asked};
 ghost use Rattle.rt_constrain.specs.Covering.{AreAsked, covers, IsCovered};
 ghost use Rattle.rt_constrain.specs.Needed.{instance_order, needed};
-ghost use Rattle.rt_constrain.specs.Asking.{asked, asked_for, asked_order, IsAskedFor};
+ghost use Rattle.rt_constrain.specs.Asking.{asked, asked_order, IsAskedFor};
 
 /// A route is covered exactly where something that is asked has length 0, or one of the route's targets begins with its
 /// bits.

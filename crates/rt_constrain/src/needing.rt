@@ -1,5 +1,5 @@
 //! The instances that a control node needs the routes of.
-ghost use Rattle.std.specs.Prelude.{◌≡◌, ◌++◌, IfOk, IsTrue};
+ghost use Rattle.std.specs.Prelude.{◌≡◌, IfOk, IsTrue};
 ghost use Rattle.std.specs.List.{filter, filter_map};
 ghost use Rattle.node_model.specs.Uses.{is_known};
 ghost use Rattle.rt_constrain.specs.Needs.{instance_across, is_circuit, UsesFit};

@@ -23,7 +23,7 @@ is_membership value = slice_index value 0 == 0 && (slice_index value 1 == 1 && s
 abbrev pub before_reached : List ℕ → ℕ
 before_reached value = 5 + slice_index value 3
 
--- and of MP_UNREACH_NLRI, which are the family (section 4)
+-- how many octets stand before the entries of MP_UNREACH_NLRI: the family (RFC 4760, section 4)
 abbrev pub before_withdrawn : List ℕ → ℕ
 before_withdrawn value = 3
 

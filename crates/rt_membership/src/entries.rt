@@ -1,6 +1,5 @@
 //! Entries, one after the other.
-ghost use Rattle.std.specs.Prelude.{◌≡◌, ◌++◌, ◌∷◌, [], ℕ, List, map, length, false, OnOk, IfErr};
-ghost use Rattle.bgp_wire.specs.declared.fault.WireFault.{WireFault};
+ghost use Rattle.std.specs.Prelude.{◌≡◌, ◌++◌, ◌∷◌, [], List, map, false, OnOk, IfErr};
 ghost use Rattle.bgp_vpn.specs.Checks.{optional_attribute};
 ghost use Rattle.bgp_vpn.specs.Routes.{RouteFields};
 ghost use Rattle.bgp_vpn.specs.Updates.{IfWire};

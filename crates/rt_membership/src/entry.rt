@@ -25,7 +25,7 @@ fn is_length(bits: u8) -> bool
     bits == 0 || (bits >= LEAST_BITS && bits <= MOST_BITS)
 }
 
-/// How many octets hold so many bits.
+/// How many octets hold a number of bits.
 pub(crate) fn octets_for(bits: u8) -> usize
     ensures { result ≡ octets_for bits }
 {

@@ -1,5 +1,5 @@
 //! The values of attributes that have memberships.
-ghost use Rattle.std.specs.Prelude.{◌≡◌, ◌++◌, ℕ, List, [], map, slice_index, false, true, option_copied, OnOk, IfErr};
+ghost use Rattle.std.specs.Prelude.{◌≡◌, ◌++◌, List, [], map, slice_index, false, true, option_copied, OnOk, IfErr};
 ghost use Rattle.bgp_wire.specs.Attributes.{AttributeFields, AreAttributes};
 ghost use Rattle.bgp_vpn.specs.Checks.{optional_attribute};
 ghost use Rattle.bgp_vpn.specs.Routes.{RouteFields};

@@ -18,7 +18,7 @@ ghost use Rattle.running_nodes.specs.Steps.{unbroken, untaken, with_break_at, wi
 ghost use Rattle.running_nodes.specs.Changes.{IsAlone, unbroken_outer};
 ghost use Rattle.running_nodes.specs.MachineModel.Setup.{Name as NameOf, opening};
 ghost use Rattle.running_nodes.specs.Cores.{HoldsAs, held_by};
-ghost use Rattle.running_nodes.specs.Halves.{AreAllHalves, AreHalves, IsEven, inner, joined, whole};
+ghost use Rattle.running_nodes.specs.Halves.{AreAllHalves, AreHalves, inner, joined, whole};
 
 use crate::cores::Cores;
 use crate::edges::Edge;

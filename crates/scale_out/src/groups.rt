@@ -60,7 +60,7 @@ impl Groups {
         Groups::read_at(alloc, &DocumentPlace::Whole, value, config)
     }
 
-    /// The same, of a value at a place.
+    /// The groups that a value at a place of a document writes, whether or not the configuration is valid.
     pub(crate) fn read_at(
         alloc: Global,
         place: &DocumentPlace<'_>,

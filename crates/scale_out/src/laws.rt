@@ -19,8 +19,7 @@ ghost use Rattle.scale_out.specs.GroupDocuments.{groups_document};
 ghost use Rattle.scale_out.specs.Reading.{groups_at, has_service};
 ghost use Rattle.scale_out.specs.Spread.{spread, reply};
 
-/// Of ascending members, of which there are some, exactly one is chosen: the one with the greatest score, and the least
-/// such.
+/// Exactly one of some ascending members is chosen: the one with the greatest score, and the least of several such.
 pub fn one_member_is_chosen()
     ensures { (members : List ℕ) (key m : ℕ) → 0 < length members → IsStrictlyIncreasing members
         → (chosen members key ≡ m) ↔ IsChosen members key m }
@@ -53,8 +52,8 @@ pub fn groups_are_of_services_of_their_own()
         → All (λ g. IsTrue (has_service c g.service)) groups × AllPairs (λ g h. g.service ≢ h.service) groups }
 {}
 
-/// Each such list of groups of the form has a document, with each member under its own name, and it reads as that list
-/// wherever it stands.
+/// Each list of groups of the form, of services that the configuration has and no two of one service, has a document,
+/// with each member under its own name, and it reads as that list wherever it stands.
 pub fn groups_are_read()
     ensures { (c : Config) (groups : List Several) → IsTrue (list_all has_group_form groups)
         → All (λ g. IsTrue (has_service c g.service)) groups → AllPairs (λ g h. g.service ≢ h.service) groups

@@ -19,7 +19,8 @@ database t = numbered (codes "d") t
 abbrev pub management : ℕ → List ℕ
 management t = numbered (codes "m") t
 
--- its three policies: between the first two networks, between the next two, and of the management with all of them
+-- the three policies of a tenant: between the first two networks, between the next two, and of the management with all
+-- of them
 abbrev pub front_policy : ℕ → List ℕ
 front_policy t = numbered (codes "pf") t
 
@@ -29,7 +30,7 @@ back_policy t = numbered (codes "pb") t
 abbrev pub management_policy : ℕ → List ℕ
 management_policy t = numbered (codes "pm") t
 
--- its two services, a firewall and a load balancer, and the chain of both
+-- the two services of a tenant, a firewall and a load balancer, and the chain of both
 abbrev pub firewall : ℕ → List ℕ
 firewall t = numbered (codes "f") t
 

@@ -22,10 +22,10 @@ pub(crate) trait Numbered: Drop {
 
 /// What each tenant of a scenario has some of.
 pub(crate) trait OfTenant: Drop {
-    /// Those of a tenant, in the scenario of a number.
+    /// The items of a tenant, in the scenario of a number.
     ghost of_tenant: { ℕ → ℕ → List Self };
 
-    /// Appends those of a tenant.
+    /// Appends the items of a tenant.
     fn append_to(
         items: &mut Items<Self>,
         alloc: Global,
@@ -38,7 +38,7 @@ pub(crate) trait OfTenant: Drop {
         ensures { OnOk result (items.new ≡ items.old ++ of_tenant scenario tenant) };
 }
 
-/// So many of them from the first number on.
+/// As many items as are counted, from the first number on.
 pub(crate) fn all_numbered<T: Numbered>(
     alloc: Global,
     scenario: u16,
@@ -57,7 +57,7 @@ pub(crate) fn all_numbered<T: Numbered>(
     Ok(items)
 }
 
-/// Those of each tenant, in the order of the tenants.
+/// The items of all tenants, in the order of the tenants.
 pub(crate) fn of_all_tenants<T: OfTenant>(
     alloc: Global,
     scenario: u16,

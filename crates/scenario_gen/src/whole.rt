@@ -1,8 +1,7 @@
 //! Whole scenarios.
 
 use config_types::{Config, Event, Topology};
-use ov_types::{Items, NoMemory, Packet};
-use std::alloc::Global;
+use ov_types::{Items, Packet};
 
 /// A topology and a configuration, the events of a run, and the packets that are traced after them.
 #[derive(Drop)]

@@ -18,7 +18,7 @@ use crate::rows::{Row, Rows, entries_of};
 use config_types::{Config, Topology};
 use ov_types::{
     AclAction, AclRule, Addr, AgentRows, Attached, Entry, InstanceId, Items, Label, Low, LowKey,
-    LowValue, NoMemory, Prefix, TableRow,
+    LowValue, NoMemory, Prefix,
 };
 use route_targets::circuit_instance;
 use std::alloc::Global;

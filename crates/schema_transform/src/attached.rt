@@ -1,5 +1,5 @@
 //! The policies that a network attaches: no other has a rule between it and another network.
-ghost use Rattle.std.specs.Prelude.{◌≡◌, ◌++◌, filter, IfOk};
+ghost use Rattle.std.specs.Prelude.{◌≡◌, filter, IfOk};
 ghost use Rattle.policy_rules.specs.Related.{attaches, are_related, imports};
 
 use config_types::{Config, Network, Policy};

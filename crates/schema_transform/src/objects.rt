@@ -1,5 +1,5 @@
 //! Low-level objects.
-ghost use Rattle.std.specs.Prelude.{◌≡◌, ◌||◌, [], filter, flat_map, map, IfOk, OnOk, IsTrue};
+ghost use Rattle.std.specs.Prelude.{◌≡◌, ◌||◌, filter, flat_map, map, IfOk, OnOk, IsTrue};
 ghost use Rattle.std.specs.BTreeMap.{insert_entry};
 ghost use Rattle.std.specs.List.{filter_map, list_all};
 ghost use Rattle.ov_types.specs.Keys.{low_key_cmp};

@@ -1,5 +1,5 @@
 //! The rows of instances' tables.
-ghost use Rattle.std.specs.Prelude.{◌≡◌, ◌==◌, ◌&&◌, ◌<◌, ◌++◌, [], filter, flat_map, length, map, IfOk, IfSome, OnOk, IsTrue};
+ghost use Rattle.std.specs.Prelude.{◌≡◌, ◌==◌, ◌&&◌, ◌<◌, ◌++◌, flat_map, length, map, IfOk, IfSome, OnOk, IsTrue};
 ghost use Rattle.std.specs.List.{filter_map, list_all, position};
 ghost use Rattle.policy_rules.specs.Related.{imports};
 ghost use Rattle.ov_types.specs.First.{same_name};
@@ -21,7 +21,7 @@ use crate::attachment::Attachment;
 use crate::chain_use::ChainUse;
 use crate::hops::{first_hop, last_hop};
 use crate::numbered::{UsesByNumber, use_at};
-use config_check::{network_named, network_numbered, node_named};
+use config_check::{network_numbered, node_named};
 use config_types::{Config, Network, Node, Port, Topology};
 use ov_types::{ControlRows, InstanceId, Items, Name, NoMemory, Prefix, TableRow};
 use route_targets::{circuit_address, circuit_instance, circuit_label, port_label, rd};

@@ -6,7 +6,7 @@ use Rattle.config_model.specs.Faults.{Fault}
 use Rattle.config_model.specs.Input.{compile_at}
 use Rattle.config_check.specs.Rules.{first_broken}
 use Rattle.compile_answers.specs.Answers.{DocumentAnswer, answer_bad, answer_checked, of_json}
-use Rattle.ov_json.specs.Json.{json_of}
+use Rattle.ov_io.specs.Json.{json_of}
 use Rattle.top_call.specs.Constraint.{constrain_text}
 
 -- what `constrain` answers to a topology and a configuration that were read, or not: it writes what control nodes ask

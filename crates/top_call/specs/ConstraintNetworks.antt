@@ -20,7 +20,7 @@ use Rattle.machine_model.specs.Steps.{is_settled}
 use Rattle.net_machine.specs.RunningNodes.Stands.{StandsFor, moment}
 use Rattle.net_machine.specs.Looking.{held_at}
 use Rattle.net_machine.specs.NetState.{NetState}
-use Rattle.ov_json.specs.Json.{json_of}
+use Rattle.ov_io.specs.Json.{json_of}
 use Rattle.net_machine.specs.RunningLaws.Peering.{AllHearTheirPeers}
 use Rattle.rt_constrain.specs.Asking.{cut}
 use Rattle.rt_constrain.specs.Needed.{needed}

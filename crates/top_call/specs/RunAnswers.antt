@@ -6,7 +6,7 @@ use Rattle.config_model.specs.Faults.{Fault}
 use Rattle.config_model.specs.Event.{run_at}
 use Rattle.config_check.specs.Rules.{first_broken}
 use Rattle.compile_answers.specs.Answers.{DocumentAnswer, answer_bad, answer_checked, of_json}
-use Rattle.ov_json.specs.Json.{json_of}
+use Rattle.ov_io.specs.Json.{json_of}
 use Rattle.top_call.specs.Schedules.{run_text}
 
 -- what `run` answers to what was read for it, or not: it writes the answers of the events

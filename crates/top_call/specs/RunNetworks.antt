@@ -11,7 +11,7 @@ use Rattle.config_model.specs.declared.input.RunInput.{RunInput}
 use Rattle.config_model.specs.Event.{run_at}
 use Rattle.net_machine.specs.NetState.{NetState}
 use Rattle.net_machine.specs.Taken.{HasTaken}
-use Rattle.ov_json.specs.Json.{json_of}
+use Rattle.ov_io.specs.Json.{json_of}
 use Rattle.net_machine.specs.MachineMomentLaws.TiedCompiled.{AreAsCompiled}
 use Rattle.net_machine.specs.MachineMomentLaws.Isolated.{IsIsolated}
 use Rattle.net_machine.specs.MachineMomentLaws.Runs.{answers}

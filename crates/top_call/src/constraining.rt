@@ -8,7 +8,7 @@ ghost use Rattle.net_machine.specs.RunningNodes.Stands.{moment};
 ghost use Rattle.ov_io.specs.Inputs.{TookFront};
 ghost use Rattle.ov_io.specs.Pieces.{HasWriteCause};
 ghost use Rattle.top_call.specs.ConstraintAnswers.{constrain_answer, constrain_value};
-ghost use Rattle.top_call.specs.Constraint.{constrain_text, constraint_text, settling};
+ghost use Rattle.top_call.specs.Constraint.{constrain_text, settling};
 ghost use Rattle.top_call.specs.ConstraintNetworks.{HasSettled, IsLeftSettled, IsReadAs, NoneNeedsMore, TookConstraint};
 ghost use Rattle.top_call.specs.ConstraintNetworks.{input_of};
 
@@ -19,8 +19,7 @@ use config_check::Valid;
 use config_model::{ReadRefusal, read_compile};
 use config_types::Event;
 use net_machine::{Net, leave};
-use ov_io::{Sink, WriteRefusal};
-use ov_json::value_of;
+use ov_io::{Sink, WriteRefusal, value_of};
 use ov_types::NoMemory;
 use serde_json::Value;
 use std::alloc::Global;

@@ -64,7 +64,7 @@ impl Fib {
         self.trie.remove(span, prefix);
     }
 
-    /// Where this very prefix leads.
+    /// Where the route of just this prefix leads.
     #[tactic(auto, unfolding(crate::specs::Trie::routes_of))]
     pub fn get(&self, prefix: &Prefix) -> Option<Entry>
         ensures { result ≡ lookup (is_at (block_cmp prefix.now)) self.now }

@@ -27,7 +27,7 @@ impl Model for Span {
 }
 
 impl Span {
-    /// All addresses, of which this is one.
+    /// The span of all addresses, which holds this one.
     pub(crate) fn around(addr: Addr) -> Span
         ensures all { result ≡ all_addresses }
         ensures inside { IsTrue (contains result addr.0) }
@@ -42,7 +42,7 @@ impl Span {
         Span { addr: 0, len: 0 }
     }
 
-    /// How many bits its addresses share.
+    /// How many bits the addresses of the span share.
     pub(crate) fn len(self) -> u8
         ensures len { result ≡ self.len }
         ensures at_most { result ≤ 32 }

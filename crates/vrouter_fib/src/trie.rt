@@ -97,7 +97,7 @@ impl Trie {
         }
     }
 
-    /// Where this very prefix leads.
+    /// Where the route of just this prefix leads.
     pub(crate) fn get(&self, span: Span, prefix: &Prefix) -> Option<Entry>
         requires deep { IsDeep self.now span.len }
         requires inside { IsIn span prefix.now }

@@ -2,7 +2,7 @@
 ghost use Rattle.std.specs.Prelude.{◌≡◌, IfOk};
 ghost use Rattle.item_wire.specs.declared.event.ItemState.TheVariants.{Idle};
 
-use crate::records::{push_fault, push_item};
+use crate::records::push_fault;
 use case_lines::{CaseFault, told};
 use item_wire::{
     Item, ItemCause, ItemEvent, ItemFrom, ItemRefusal, ItemSession, ItemState, TooLong, read_item,

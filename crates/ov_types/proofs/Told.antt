@@ -8,8 +8,8 @@ use Rattle.std.proofs.lemmas.Str.Parse.{digit_from_value}
 use Rattle.ov_types.specs.Texts.{address_text, hex_text, kinded_text}
 use Rattle.ov_types.specs.Written.{address_of}
 use Rattle.ov_types.proofs.OneText.{address_has_one_text}
-use Rattle.type_laws.proofs.Cutting.{cut, decimal_before, address_before}
-use Rattle.type_laws.proofs.Hexadecimal.{hex_injective}
+use Rattle.ov_types.proofs.Cutting.{cut, decimal_before, address_before}
+use Rattle.ov_types.proofs.Hexadecimal.{hex_injective}
 
 -- the kind that a text tells, 3 of one without a form of its own: by a letter at its front, or by what ends its first number
 abbrev told : List ℕ → ℕ

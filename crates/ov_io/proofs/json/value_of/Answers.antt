@@ -1,7 +1,7 @@
 use Rattle.std.proofs.Common.{◌∙◌, sym, ap}
 use Rattle.serde_json.specs.Read.{read}
-use Rattle.ov_json.proofs.JsonLaws.{json_of_text, json_of_other}
-use Rattle.ov_json.proofs.value_of.Goals as goal
+use Rattle.ov_io.proofs.JsonLaws.{json_of_text, json_of_other}
+use Rattle.ov_io.proofs.json.value_of.Goals as goal
 
 pub returns-in_default : goal.returns-in_default
 returns-in_default c = json_of_other c.args.octets.now c.in_default.ensures.cases.0

@@ -1,9 +1,7 @@
 //! The value that octets write as JSON.
-#![tactic(auto)]
-
 ghost use Rattle.std.specs.Prelude.{◌≡◌, IfOk, option_map};
 ghost use Rattle.serde_json.specs.View.{view};
-ghost use Rattle.ov_json.specs.Json.{json_of};
+ghost use Rattle.ov_io.specs.Json.{json_of};
 
 use ov_types::NoMemory;
 use serde_json::Value;

@@ -2,9 +2,9 @@ use Rattle.std.proofs.Common.{◌≡◌, ◌⊎◌, ◌<◌, ◌^◌, ◌/◌, �
 use Rattle.std.proofs.lemmas.Bool.{cases_eq, and_parts, eqb-true}
 use Rattle.ov_types.specs.Targets.{is_target}
 use Rattle.ov_types.specs.Texts.{kinded_text, target_text}
-use Rattle.type_laws.proofs.Told.{say_alike, shared}
-use Rattle.type_laws.specs.Telling.{DifferInTheirSubtype, subtype_of, type_of}
-use Rattle.type_laws.proofs.targets_are_told_apart.Goals as goal
+use Rattle.ov_types.proofs.Told.{say_alike, shared}
+use Rattle.ov_types.specs.Telling.{DifferInTheirSubtype, subtype_of, type_of}
+use Rattle.ov_types.proofs.laws.targets_are_told_apart.Goals as goal
 
 apart : (m n : ℕ) → m < 2 ^ 64 → n < 2 ^ 64 → target_text m ≡ target_text n → (m ≡ n) ⊎ DifferInTheirSubtype m n
 apart m n sm sn e =

@@ -1,7 +1,7 @@
 use Rattle.std.proofs.Common.{◌≡◌, ◌<◌, ◌^◌, ◌/◌, ℕ, inl, inr, arith}
 use Rattle.ov_types.specs.Texts.{distinguisher_text}
-use Rattle.type_laws.proofs.Told.{say_alike}
-use Rattle.type_laws.proofs.distinguishers_are_told_apart.Goals as goal
+use Rattle.ov_types.proofs.Told.{say_alike}
+use Rattle.ov_types.proofs.laws.distinguishers_are_told_apart.Goals as goal
 
 apart : (m n : ℕ) → m < 2 ^ 64 → n < 2 ^ 64 → distinguisher_text m ≡ distinguisher_text n → m ≡ n
 apart m n sm sn e =

@@ -1,7 +1,7 @@
 use Rattle.std.proofs.Common.{◌≡◌, ◌⊎◌, ℕ, ◌-◌, ◌^◌, ◌<◌, inl, inr, arith}
 use Rattle.std.proofs.lemmas.Bool.{cases_lt}
 use Rattle.ov_types.specs.Counts.{Rose}
-use Rattle.type_laws.proofs.counts_rise_where_they_grow.Goals as goal
+use Rattle.ov_types.proofs.laws.counts_rise_where_they_grow.Goals as goal
 
 grew : (before now : ℕ) → now < 2 ^ 64 → Rose before now → (before < now) ⊎ (now ≡ 2 ^ 64 - 1)
 grew before now fits rose =

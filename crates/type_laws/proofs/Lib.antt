@@ -1,3 +1,0 @@
-mod Cutting
-mod Hexadecimal
-mod Told
