@@ -107,7 +107,7 @@ own_key h a (Up.Publish i x) (Some (Label l)) p m = known (is_known h.feed i) _ 
     known true q e (inr n) = absurd n
     known false q e n = absurd n
 
-moved_publication : (h : Holdings) (session : ℕ) (d : Delta UpKey LabelNo) (p : Path) → Member p (moved_by_publication h session d) → key_published h session (key_of d) ≡ Some (path_key p)
+pub moved_publication : (h : Holdings) (session : ℕ) (d : Delta UpKey LabelNo) (p : Path) → Member p (moved_by_publication h session d) → key_published h session (key_of d) ≡ Some (path_key p)
 moved_publication h session d p m = of_agent (told_on h.agents session) d m
   where
     of_agent : (o : Option Told) (d : Delta UpKey LabelNo) → Member p (moved_by h o d) → published_key o (key_of d) ≡ Some (path_key p)

@@ -81,7 +81,7 @@ module _ (h : Holdings) (peers : List Map) (agents : List Told) (moved : List Pa
     elsewhere d w e =
         true≢false (sym (any_in (among (hop_at s d)) (target_of h.asn (hop_at s d)) targets (covers.published (hop_at s d) e) (imports_itself d w)) ∙ untouched d w)
 
-    published_same : (d : ℕ) → d ≤ s.chain.services → publisher h (circuit_at s d) ≡ publisher later (circuit_at s d)
+    pub published_same : (d : ℕ) → d ≤ s.chain.services → publisher h (circuit_at s d) ≡ publisher later (circuit_at s d)
     published_same d w = m.publishers (circuit_at s d) (λ e. elsewhere d w (e ∙ ap Some (circuit_place s d)))
 
     within_same : (d : ℕ) (subnet : Block) → d ≤ s.chain.services → has_path_within h (hop_at s d) subnet ≡ has_path_within later (hop_at s d) subnet

@@ -4,6 +4,7 @@ pub mod Images
 pub mod OneByOne
 pub mod Sets
 pub mod Growing
+pub mod Only
 pub mod Marking
 pub mod Telling
 pub mod Sending

@@ -40,14 +40,7 @@ pub map_append : {X Y : Type 0} (h : X → Y) (xs ys : List X) → map h (xs ++ 
 map_append h [] ys = refl
 map_append h (x ∷ xs) ys = ap (λ zs. h x ∷ zs) (map_append h xs ys)
 
-none_after : {X : Type 0} (xs : List X) → xs ≡ xs ++ []
-none_after [] = refl
-none_after (x ∷ xs) = ap (λ zs. x ∷ zs) (none_after xs)
-
 -- a change follows those so far, where there is one
 pub follows : {X Y : Type 0} (h : X → Y) (xs : List X) (d : Option X) (c : Option Y) → option_map h d ≡ c → map h (xs ++ cons_option d []) ≡ map h xs ++ cons_option c []
 follows h xs None c e = map_append h xs [] ∙ ap (λ o. map h xs ++ cons_option o []) e
 follows h xs (Some d) c e = map_append h xs (d ∷ []) ∙ ap (λ o. map h xs ++ cons_option o []) e
-
-pub no_change : {X : Type 0} (xs : List X) (d : Option X) → d ≡ None → xs ≡ xs ++ cons_option d []
-no_change xs d e = none_after xs ∙ ap (λ o. xs ++ cons_option o []) (sym e)

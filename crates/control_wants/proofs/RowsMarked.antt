@@ -1,10 +1,9 @@
 -- What an agent is to be told of a row.
-use Rattle.std.specs.Prelude.{◌≡◌, ◌<◌, ℕ, zero, suc, List, [], ◌∷◌, length, Bool, true, false, if◌then◌else◌, None, is_some}
+use Rattle.std.specs.Prelude.{◌≡◌, ℕ, Bool, true, false, if◌then◌else◌, None, is_some}
 use Rattle.std.specs.declared.option.Option.{Option}
-use Rattle.std.specs.List.{AllByRecursion}
 use Rattle.std.specs.Option.{option_map}
 use Rattle.std.specs.FinMap.{get}
-use Rattle.std.proofs.Common.{refl, ◌∙◌, ap, arith, get_or}
+use Rattle.std.proofs.Common.{refl, ◌∙◌, ap}
 use Rattle.ov_types.specs.Prefix.{Block}
 use Rattle.ov_types.specs.declared.numbers.InstanceId.{InstanceId}
 use Rattle.ov_types.specs.declared.rows.Entry.{Entry as RouteEntry}
@@ -25,8 +24,3 @@ row_told h session i q row e = by_test (is_some (get (told_in h.agents session).
         → (if b then option_map Entry row else None) ≡ get (wanted_on h session) (Row i q)
     by_test true yes_it_is = ap (option_map Entry) e ∙ row_wanted h (told_in h.agents session) i q yes_it_is
     by_test false none = no_row_wanted h (told_in h.agents session) i q none
-
-pub one_of : {X : Type 0} (P : X → Type 0) (xs : List X) (i : ℕ) (d : X) → AllByRecursion P xs → i < length xs → P (get_or xs i d)
-one_of P [] i d all lt = absurd (omega (arith, lt))
-one_of P (x ∷ xs) zero d all lt = all.0
-one_of P (x ∷ xs) (suc i) d all lt = one_of P xs i d all.1 (omega (arith, lt))

@@ -1,5 +1,5 @@
 -- Telling what is marked tells all.
-use Rattle.std.specs.Prelude.{◌≡◌, ℕ, List, [], ◌∷◌, ◌++◌, map, length, take, Bool, true, false, cond, ◌||◌}
+use Rattle.std.specs.Prelude.{◌≡◌, ℕ, List, [], ◌∷◌, map, length, take, Bool, true, false, cond, ◌||◌}
 use Rattle.std.specs.declared.option.Option.{Option}
 use Rattle.std.specs.declared.option.Option.TheVariants.{Some, None}
 use Rattle.std.specs.declared.cmp.Ordering.TheVariants.{Less}
@@ -139,8 +139,3 @@ items_agree d h session sent es all elsewhere are tracked = λ k none.
     let a = told_in h.agents session in
     let keys : map (λ (e : DownKey × Option DownValue). of_down e.0) es ≡ map of_down (keys_of a d.items) = sym (map_again (λ (e : DownKey × Option DownValue). e.0) of_down es) ∙ ap (map of_down) are.keys in
     tracked all k (elsewhere, not_marked d a k (unmarked k (map of_down (keys_of a d.items)) (ap (list_any (eq_by_cmp key_cmp k)) (sym keys) ∙ none)))
-
--- ---- one more
-pub each_more : {X : Type 0} (P : X → Type 0) (xs : List X) (x : X) → AllByRecursion P xs → P x → AllByRecursion P (xs ++ x ∷ [])
-each_more P [] x all p = (p, tt)
-each_more P (y ∷ ys) x all p = (all.0, each_more P ys x all.1 p)

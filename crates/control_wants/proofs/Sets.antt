@@ -94,6 +94,15 @@ module _ {K V : Type 0} (R : K → K → Ordering) (o : IsTotalOrder R) (exact :
           | false ↦ λ t. of_found fs q f.0 (got q ∙ ap (λ b. cond b (Some v) (find R q es)) t ∙ f.1)
         ] refl
 
+    pub put_from : (q : K) → Member q (map (λ e. e.0) fs) → Member q (map (λ e. e.0) es) ⊎ (q ≡ k)
+    put_from q n =
+        elim (eq_by_cmp R q k) as (λ b. eq_by_cmp R q k ≡ b → Member q (map (λ e. e.0) es) ⊎ (q ≡ k)) [
+          | true ↦ λ t. inr (exact q k ((Equal-is (R q k)).0 t))
+          | false ↦ λ t.
+              let f = found_of fs q n in
+              inl (of_found es q f.0 (sym (got q ∙ ap (λ b. cond b (Some v) (find R q es)) t) ∙ f.1))
+        ] refl
+
 -- an address that is not found is not there
 abbrev pub same_number : Addr → Addr → Bool
 same_number a b = a.0 == b.0

@@ -1,9 +1,12 @@
 -- Marks of what peers and agents told cover what it changes.
-use Rattle.std.specs.Prelude.{◌≡◌, ◌⊎◌, ◌<◌, ℕ, zero, suc, List, [], ◌∷◌, ◌++◌, map, take, length, get_or, is_some, true, false, ◌==◌, ◌≢◌}
+use Rattle.std.specs.Prelude.{◌≡◌, ◌⊎◌, ◌<◌, ℕ, zero, suc, List, [], ◌∷◌, ◌++◌, map, take, length, get_or, is_some, IfSome, Bool, true, false, cond, ◌==◌, ◌≢◌}
+use Rattle.std.specs.declared.option.Option.{Option}
 use Rattle.std.specs.declared.option.Option.TheVariants.{Some, None}
 use Rattle.std.specs.FinMap.{entries, find, get, get-entries, get-from_entries}
+use Rattle.std.specs.List.{AllByRecursion, filter}
+use Rattle.std.specs.Option.{option_map}
 use Rattle.std.proofs.Common.{refl, sym, ◌∙◌, ap, subst, inl, inr, arith}
-use Rattle.std.proofs.lemmas.Bool.{eqb-true}
+use Rattle.std.proofs.lemmas.Bool.{and_parts, eqb-true, true≢false}
 use Rattle.std.proofs.lemmas.Bool.Decides.{nat_tests}
 use Rattle.ov_types.specs.Prefix.{Block, block_cmp}
 use Rattle.ov_types.specs.declared.keys.DownKey.TheVariants as down
@@ -24,32 +27,53 @@ use Rattle.vpn_tables.specs.NodeModel.Keys.{Key, Low, Publish, Row, Subscribe, V
 use Rattle.vpn_tables.specs.NodeModel.Members.{Member}
 use Rattle.vpn_tables.specs.NodeModel.Paths.{Holdings, Path, Told, own_paths}
 use Rattle.vpn_tables.specs.NodeModel.Reaching.{AreShort, reoriginated_paths}
-use Rattle.vpn_tables.specs.NodeModel.Tables.{table, table_row}
-use Rattle.vpn_tables.specs.NodeModel.Values.{Label}
+use Rattle.vpn_tables.specs.NodeModel.Tables.{same_prefix, table, table_row}
+use Rattle.vpn_tables.specs.NodeModel.Values.{Entry, Label}
 use Rattle.vpn_tables.specs.NodeModel.Wants.{route_entry, wanted_by_peers}
 use Rattle.vpn_tables.proofs.NodeModel.Members.{in_map}
-use Rattle.vpn_tables.proofs.NodeModel.Orders.{key_total, prefix_exact}
+use Rattle.vpn_tables.proofs.NodeModel.Orders.{key_total, prefix_exact, prefix_same}
 use Rattle.vpn_tables.specs.Answers.{rows_at}
 use Rattle.vpn_tables.specs.Changes.{with_publication, with_route}
 use Rattle.vpn_tables.specs.Listing.{told_in}
-use Rattle.vpn_tables.specs.Moved.{targets_by_publication, targets_by_route}
-use Rattle.vpn_tables.specs.Touched.{rows_by_key, touched_rows}
-use Rattle.vpn_tables.specs.TouchedKeys.{key_published, keys_led}
-use Rattle.control_change_laws.proofs.Covering.{publication_keys, publication_rows_by_key, route_keys}
-use Rattle.control_change_laws.proofs.Touching as touching
+use Rattle.vpn_tables.specs.At.{row_at, selected_at, shown}
+use Rattle.vpn_tables.specs.Gathered.{UsesAreInRange}
+use Rattle.vpn_tables.specs.Moved.{moved_by_publication}
+use Rattle.vpn_tables.specs.TouchedKeys.{first_keyed, key_published, path_key, same_key}
+use Rattle.vpn_tables.specs.Followed.{HasMoved, IsListed, IsRowChange, key_led, led_of}
+use Rattle.vpn_tables.specs.declared.changes.RowChange.{RowChange}
+use Rattle.vpn_tables.proofs.Choosing.{shown_plain}
+use Rattle.vpn_tables.proofs.Differing.{IsUnder, appended_same, keyed_same, selected_same}
+use Rattle.control_wants.specs.Entries.{hop_of}
+use Rattle.control_wants.proofs.OneKey.{no_row_wanted, route_wanted, row_wanted, told_value}
+use Rattle.control_change_laws.proofs.Covering.{moved_publication}
+use Rattle.control_change_laws.proofs.Filtering.{all_from}
+use Rattle.control_change_laws.proofs.Touching.{publication_moves}
 use Rattle.control_change_laws.specs.Here.{IsRowOf, wanted_on}
 use Rattle.control_change_laws.proofs.AgentRows.{publication_address, publication_rows, publication_subscribes, route_address, route_rows, same_elsewhere, subscription_elsewhere, subscription_rows_alone, with_route_agents}
-use Rattle.control_wants.specs.Marks.{AreListsMarked, AreRoutesMarked, AreRowsMarked, AreTableRowsMarked, Covers, IsCleanItem, IsCleanRoute, IsWithin, Marks, is_of}
+use Rattle.control_wants.specs.Marks.{AreChangesMarked, AreKeysMarked, AreListsMarked, AreTableRowsMarked, Covers, IsChangeMarked, IsCleanItem, IsCleanRoute, IsKeyMarked, IsRowMarked, IsWithin, Marks, is_of}
 use Rattle.control_wants.specs.declared.whom.Whom.{Whom}
 use Rattle.control_wants.proofs.Growing.{clean_as}
 use Rattle.control_wants.proofs.Sets.{found_entry}
 
 -- ---- marks stay as others are added
-pub rows_stay : (d d' : Marks) (rows : List (InstanceId × Block)) → AreRowsMarked d rows → IsWithin d d' → AreRowsMarked d' rows
-rows_stay d d' rows m w = λ all i q n a subscribes clean. m (w.all all) i q n a subscribes (w.items a (Row i q) clean)
+key_stays : (d d' : Marks) (key : Option VpnKey) → IsKeyMarked d key → IsWithin d d' → IsKeyMarked d' key
+key_stays d d' key m w = λ k is clean. m k is (w.routes (Vpn k) clean)
 
-pub routes_stay : (d d' : Marks) (keys : List VpnKey) → AreRoutesMarked d keys → IsWithin d d' → AreRoutesMarked d' keys
-routes_stay d d' keys m w = λ all k n clean. m (w.all all) k n (w.routes (Vpn k) clean)
+pub both_stay : (d d' : Marks) (P : Type 0) (before after : Option VpnKey) → AreKeysMarked d P before after → IsWithin d d' → AreKeysMarked d' P before after
+both_stay d d' P before after m w = λ all p. (key_stays d d' before (m (w.all all) p).0 w, key_stays d d' after (m (w.all all) p).1 w)
+
+pub both_marked : (d d' : Marks) (P : Type 0) (before after : Option VpnKey) → (d.all ≡ false → IsKeyMarked d before) → IsWithin d d' → (d'.all ≡ false → IsKeyMarked d' after) → AreKeysMarked d' P before after
+both_marked d d' P before after m w now = λ all _. (key_stays d d' before (m (w.all all)) w, now all)
+
+pub row_stays : (d d' : Marks) (c : RowChange) → IsRowMarked d c → IsWithin d d' → IsRowMarked d' c
+row_stays d d' c m w = λ all other a subscribes clean. m (w.all all) other a subscribes (w.items a (Row c.instance c.prefix) clean)
+
+change_stays : (d d' : Marks) (c : RowChange) → IsChangeMarked d c → IsWithin d d' → IsChangeMarked d' c
+change_stays d d' c m w = record {
+  row = row_stays d d' c m.row w;
+  right = both_stay d d' (c.before.led_right ≢ c.after.led_right) (key_led c.before.led_right) (key_led c.after.led_right) m.right w;
+  left = both_stay d d' (c.before.led_left ≢ c.after.led_left) (key_led c.before.led_left) (key_led c.after.led_left) m.left w;
+}
 
 -- ---- one more is marked
 one_more : {X : Type 0} (xs : List X) (i : ℕ) (d x : X) → i < length xs → Member x (take (suc i) xs) → Member x (take i xs) ⊎ (get_or xs i d ≡ x)
@@ -59,14 +83,11 @@ one_more (y ∷ ys) zero d x lt (inr n) = absurd n
 one_more (y ∷ ys) (suc i) d x lt (inl e) = inl (inl e)
 one_more (y ∷ ys) (suc i) d x lt (inr n) = elim (one_more ys i d x (omega (arith, lt)) n) as (λ _. Member x (y ∷ take i ys) ⊎ (get_or ys i d ≡ x)) [ inl m ↦ inl (inr m) | inr e ↦ inr e ]
 
-pub rows_more : (d d' : Marks) (rows : List (InstanceId × Block)) (i : ℕ) (e : InstanceId × Block) → i < length rows → e ≡ get_or rows i e → AreRowsMarked d (take i rows) → IsWithin d d'
-    → (d'.all ≡ false → (a : Told) → is_some (get a.map (Subscribe e.0)) ≡ true → IsCleanItem d' a (Row e.0 e.1) → ⊥) → AreRowsMarked d' (take (suc i) rows)
-rows_more d d' rows i e lt at so w now = λ all j q n a subscribes clean.
-    elim (one_more rows i e (j, q) lt n) as (λ _. ⊥) [
-      | inl m ↦ rows_stay d d' (take i rows) so w all j q m a subscribes clean
-      | inr is ↦
-          let same = sym (at ∙ is) in
-          now all a (subst (λ (r : InstanceId × Block). is_some (get a.map (Subscribe r.0)) ≡ true) same subscribes) (subst (λ (r : InstanceId × Block). IsCleanItem d' a (Row r.0 r.1)) same clean)
+pub changes_more : (d d' : Marks) (cs : List RowChange) (i : ℕ) (e : RowChange) → i < length cs → e ≡ get_or cs i e → AreChangesMarked d (take i cs) → IsWithin d d' → IsChangeMarked d' e → AreChangesMarked d' (take (suc i) cs)
+changes_more d d' cs i e lt at so w now = λ c n.
+    elim (one_more cs i e c lt n) as (λ _. IsChangeMarked d' c) [
+      | inl m ↦ change_stays d d' c (so c m) w
+      | inr is ↦ subst (IsChangeMarked d') (at ∙ is) now
     ]
 
 pub table_rows_more : (d d' : Marks) (whom : Whom) (instance : InstanceId) (rows : List (Block × TableRow)) (i : ℕ) (e : Block × TableRow) → i < length rows → e ≡ get_or rows i e → AreTableRowsMarked d whom instance (take i rows)
@@ -89,20 +110,12 @@ lists_more d d' from objects i e lt at so w now = λ all to v n a clean.
           now all to named a (subst (λ (x : LowKey). IsCleanItem d' a (Low x)) (sym named) clean)
     ]
 
-pub routes_more : (d d' : Marks) (keys : List VpnKey) (i : ℕ) (e : VpnKey) → i < length keys → e ≡ get_or keys i e → AreRoutesMarked d (take i keys) → IsWithin d d'
-    → (d'.all ≡ false → IsCleanRoute d' (Vpn e) → ⊥) → AreRoutesMarked d' (take (suc i) keys)
-routes_more d d' keys i e lt at so w now = λ all k n clean.
-    elim (one_more keys i e k lt n) as (λ _. ⊥) [
-      | inl m ↦ routes_stay d d' (take i keys) so w all k m clean
-      | inr is ↦ now all (subst (λ (k : VpnKey). IsCleanRoute d' (Vpn k)) (sym (at ∙ is)) clean)
-    ]
-
 taken_all : {X : Type 0} (xs : List X) → take (length xs) xs ≡ xs
 taken_all [] = refl
 taken_all (x ∷ xs) = ap (λ ys. x ∷ ys) (taken_all xs)
 
-pub all_rows : (d : Marks) (rows : List (InstanceId × Block)) (i : ℕ) → i ≡ length rows → AreRowsMarked d (take i rows) → AreRowsMarked d rows
-all_rows d rows i end m = subst (AreRowsMarked d) (ap (λ n. take n rows) end ∙ taken_all rows) m
+pub all_changes : (d : Marks) (cs : List RowChange) (i : ℕ) → i ≡ length cs → AreChangesMarked d (take i cs) → AreChangesMarked d cs
+all_changes d cs i end m = subst (AreChangesMarked d) (ap (λ n. take n cs) end ∙ taken_all cs) m
 
 pub all_table_rows : (d : Marks) (whom : Whom) (instance : InstanceId) (rows : List (Block × TableRow)) (i : ℕ) → i ≡ length rows → AreTableRowsMarked d whom instance (take i rows) → AreTableRowsMarked d whom instance rows
 all_table_rows d whom instance rows i end m = subst (AreTableRowsMarked d whom instance) (ap (λ n. take n rows) end ∙ taken_all rows) m
@@ -121,9 +134,6 @@ table_marked d whom h i m all a q of clean r =
 
 pub all_lists : (d : Marks) (from : ℕ) (objects : List (LowKey × LowValue)) (i : ℕ) → i ≡ length objects → AreListsMarked d from (take i objects) → AreListsMarked d from objects
 all_lists d from objects i end m = subst (AreListsMarked d from) (ap (λ n. take n objects) end ∙ taken_all objects) m
-
-pub all_routes : (d : Marks) (keys : List VpnKey) (i : ℕ) → i ≡ length keys → AreRoutesMarked d (take i keys) → AreRoutesMarked d keys
-all_routes d keys i end m = subst (AreRoutesMarked d) (ap (λ n. take n keys) end ∙ taken_all keys) m
 
 -- ---- towards peers there are routes alone
 no_low : (x : LowKey) (ps : List Path) → find key_cmp (Low x) (map route_entry ps) ≡ None
@@ -157,18 +167,104 @@ peers_by_routes h g k same = by_kind k same
     by_kind (Publish i q) same = both (Publish i q) (no_publication i q)
     by_kind (Subscribe i) same = both (Subscribe i) (no_subscription i)
 
+-- ---- under one key, and of one row
+keyed : (k : VpnKey) (p : Path) → same_key k p ≡ true → path_key p ≡ k
+keyed k p t =
+    let parts = and_parts (p.rd.0 == k.rd.0) (same_prefix p.prefix k.prefix) t in
+    λ n. record { rd = record { 0 = eqb-true p.rd.0 k.rd.0 parts.0 n }; prefix = prefix_same p.prefix k.prefix parts.1 n }
+
+first_filtered : (k : VpnKey) (ps : List Path) → first_keyed k (filter (same_key k) ps) ≡ first_keyed k ps
+first_filtered k [] = refl
+first_filtered k (p ∷ ps) =
+    elim (same_key k p) as (λ t. same_key k p ≡ t → first_keyed k (cond t (p ∷ filter (same_key k) ps) (filter (same_key k) ps)) ≡ cond t (Some p) (first_keyed k ps)) [
+      | true ↦ λ t. ap (λ b. cond b (Some p) (first_keyed k (filter (same_key k) ps))) t
+      | false ↦ λ _. first_filtered k ps
+    ] refl
+
+wanted_same : (h g : Holdings) (k : VpnKey) → first_keyed k (own_paths h) ≡ first_keyed k (own_paths g) → first_keyed k (reoriginated_paths h) ≡ first_keyed k (reoriginated_paths g)
+    → get (wanted_by_peers h) (Vpn k) ≡ get (wanted_by_peers g) (Vpn k)
+wanted_same h g k own led =
+    sym (route_wanted h k (first_keyed k (own_paths h ++ reoriginated_paths h)) refl)
+    ∙ ap (option_map told_value) (appended_same k (own_paths h) (reoriginated_paths h) (own_paths g) (reoriginated_paths g) own led)
+    ∙ route_wanted g k (first_keyed k (own_paths g ++ reoriginated_paths g)) refl
+
+row_of_selected : (h g : Holdings) (i : InstanceId) (q : Block) → selected_at h i q ≡ selected_at g i q → row_at h i q ≡ row_at g i q
+row_of_selected h g i q same = shown_plain (get (table h i) q) ∙ ap (option_map shown) same ∙ sym (shown_plain (get (table g i) q))
+
+told_same : (h g : Holdings) (agent : ℕ) (i : InstanceId) (q : Block) → is_some (get (told_in g.agents agent).map (Subscribe i)) ≡ is_some (get (told_in h.agents agent).map (Subscribe i))
+    → (is_some (get (told_in h.agents agent).map (Subscribe i)) ≡ true → selected_at h i q ≡ selected_at g i q) → get (wanted_on h agent) (Row i q) ≡ get (wanted_on g agent) (Row i q)
+told_same h g agent i q still same =
+    elim (is_some (get (told_in h.agents agent).map (Subscribe i))) as (λ b. is_some (get (told_in h.agents agent).map (Subscribe i)) ≡ b → get (wanted_on h agent) (Row i q) ≡ get (wanted_on g agent) (Row i q)) [
+      | true ↦ λ yes_it_is.
+          sym (row_wanted h (told_in h.agents agent) i q yes_it_is)
+          ∙ ap (λ o. option_map Entry (option_map hop_of o)) (row_of_selected h g i q (same yes_it_is))
+          ∙ row_wanted g (told_in g.agents agent) i q (still ∙ yes_it_is)
+      | false ↦ λ none. sym (no_row_wanted h (told_in h.agents agent) i q none) ∙ no_row_wanted g (told_in g.agents agent) i q (still ∙ none)
+    ] refl
+
+-- what an agent is told is that of a row or of none
+by_row : (h g : Holdings) (agent : ℕ) (k : Key) → ((i : InstanceId) (q : Block) → k ≡ Row i q → get (wanted_on h agent) (Row i q) ≡ get (wanted_on g agent) (Row i q))
+    → (((i : InstanceId) (q : Block) → k ≡ Row i q → ⊥) → get (wanted_on h agent) k ≡ get (wanted_on g agent) k) → get (wanted_on h agent) k ≡ get (wanted_on g agent) k
+by_row h g agent (Row i q) row other = row i q refl
+by_row h g agent (Low x) row other = other (λ i q e. unlike x i q e)
+  where
+    unlike : (x : LowKey) (i : InstanceId) (q : Block) → Low x ≡ Row i q → ⊥
+    unlike x i q e = cc
+by_row h g agent (Vpn x) row other = other (λ i q e. unlike x i q e)
+  where
+    unlike : (x : VpnKey) (i : InstanceId) (q : Block) → Vpn x ≡ Row i q → ⊥
+    unlike x i q e = cc
+by_row h g agent (Publish j p) row other = other (λ i q e. unlike j p i q e)
+  where
+    unlike : (j : InstanceId) (p : Block) (i : InstanceId) (q : Block) → Publish j p ≡ Row i q → ⊥
+    unlike j p i q e = cc
+by_row h g agent (Subscribe j) row other = other (λ i q e. unlike j i q e)
+  where
+    unlike : (j i : InstanceId) (q : Block) → Subscribe j ≡ Row i q → ⊥
+    unlike j i q e = cc
+
+-- ---- where what changed is marked
+module _ (m' : Marks) (all : m'.all ≡ false) (h g : Holdings) (cs : List RowChange) (each : AllByRecursion (IsRowChange h g) cs) (every : (i : InstanceId) (q : Block) → HasMoved h g i q → IsListed cs i q) (marked : AreChangesMarked m' cs) where
+  clean_key : (k : VpnKey) → IsCleanRoute m' (Vpn k) → (c : RowChange) → Member c cs → (b : Bool) → led_of b c.before ≢ led_of b c.after → IsUnder k (led_of b c.before) ⊎ IsUnder k (led_of b c.after) → ⊥
+  clean_key k clean c m b differs under =
+      elim under as (λ _. ⊥) [
+        | inl u ↦ (of_end b differs).0 k u clean
+        | inr u ↦ (of_end b differs).1 k u clean
+      ]
+    where
+      of_end : (b : Bool) → led_of b c.before ≢ led_of b c.after → IsKeyMarked m' (key_led (led_of b c.before)) × IsKeyMarked m' (key_led (led_of b c.after))
+      of_end true differs = (marked c m).right all differs
+      of_end false differs = (marked c m).left all differs
+
+  led_same : UsesAreInRange h.feed → UsesAreInRange g.feed → (k : VpnKey) → IsCleanRoute m' (Vpn k) → first_keyed k (reoriginated_paths h) ≡ first_keyed k (reoriginated_paths g)
+  led_same there here k clean = keyed_same h g cs each every k there here (clean_key k clean)
+
+  row_same : (a : Told) (i : InstanceId) (q : Block) → is_some (get a.map (Subscribe i)) ≡ true → IsCleanItem m' a (Row i q) → selected_at h i q ≡ selected_at g i q
+  row_same a i q subscribes clean =
+      selected_same h g cs each every i q (λ c m at to other.
+      (marked c m).row all other a (subst (λ (j : InstanceId). is_some (get a.map (Subscribe j)) ≡ true) (sym at) subscribes)
+      (subst (IsCleanItem m' a) (λ n. Row (sym at n) (sym to n)) clean))
+
 -- ---- a route of a peer
-pub covers_route : (m m' : Marks) (h : Holdings) (session : ℕ) (d : Delta VpnKey VpnRoute) → AreShort h.feed → IsWithin m m' → m'.all ≡ false
-    → (IsCleanRoute m' (Vpn (key_of d)) → ⊥) → AreRowsMarked m' (touched_rows h (targets_by_route h session d) (key_of d).prefix)
-    → AreRoutesMarked m' (keys_led h (targets_by_route h session d)) → AreRoutesMarked m' (keys_led (with_route h session d) (targets_by_route h session d))
+own_stays : (h : Holdings) (session : ℕ) (d : Delta VpnKey VpnRoute) (k : VpnKey) → first_keyed k (own_paths h) ≡ first_keyed k (own_paths (with_route h session d))
+own_stays h zero d k = refl
+own_stays h (suc place) d k = refl
+
+same_feed : (h : Holdings) (session : ℕ) (d : Delta VpnKey VpnRoute) → UsesAreInRange h.feed → UsesAreInRange (with_route h session d).feed
+same_feed h zero d range = range
+same_feed h (suc place) d range = range
+
+pub covers_route : (m m' : Marks) (h : Holdings) (session : ℕ) (d : Delta VpnKey VpnRoute) (cs : List RowChange) → UsesAreInRange h.feed → IsWithin m m' → m'.all ≡ false
+    → AllByRecursion (IsRowChange h (with_route h session d)) cs → ((i : InstanceId) (q : Block) → HasMoved h (with_route h session d) i q → IsListed cs i q) → AreChangesMarked m' cs
     → Covers m m' h (with_route h session d)
-covers_route m m' h session d short within all own rows before after = record {
+covers_route m m' h session d cs range within all each every marked = record {
   addresses = route_address h session d;
   peers = λ k clean. peers_by_routes h (with_route h session d) k (λ v is.
-      let here = subst (IsCleanRoute m') is clean in
-      route_keys h session d short v (λ e. own (subst (λ (v : VpnKey). IsCleanRoute m' (Vpn v)) e here)) (λ n. before all v n here) (λ n. after all v n here));
-  agents = λ agent k clean. route_rows h session d agent k (λ i q is subscribes.
-      touching.route_rows h session d short i q (λ n. rows all i q n (told_in h.agents agent) subscribes (subst (IsCleanItem m' (told_in h.agents agent)) is (as_before agent k clean))));
+      wanted_same h (with_route h session d) v (own_stays h session d v) (led_same m' all h (with_route h session d) cs each every marked range (same_feed h session d range) v (subst (IsCleanRoute m') is clean)));
+  agents = λ agent k clean. by_row h (with_route h session d) agent k
+      (λ i q is. told_same h (with_route h session d) agent i q (ap (λ ts. is_some (get (told_in ts agent).map (Subscribe i))) (with_route_agents h session d)) (λ subscribes.
+      row_same m' all h (with_route h session d) cs each every marked (told_in h.agents agent) i q subscribes (subst (IsCleanItem m' (told_in h.agents agent)) is (as_before agent k clean))))
+      (λ other. route_rows h session d agent k (λ i q is _. absurd (other i q is)));
   kept = λ agent k clean. within.items (told_in h.agents agent) k (as_before agent k clean);
 }
   where
@@ -180,27 +276,44 @@ covers_route m m' h session d short within all own rows before after = record {
 abbrev StaysClean : Marks → Holdings → Holdings → ℕ → Key → Type 0
 StaysClean m h g agent k = (get (wanted_on h agent) k ≡ get (wanted_on g agent) k) × IsCleanItem m (told_in h.agents agent) k
 
-pub covers_publication : (m m' : Marks) (h : Holdings) (session : ℕ) (d : Delta UpKey LabelNo) → AreShort h.feed → IsWithin m m' → m'.all ≡ false
+own_but : (h : Holdings) (session : ℕ) (d : Delta UpKey LabelNo) (k : VpnKey) → key_published h session (key_of d) ≢ Some k → first_keyed k (own_paths h) ≡ first_keyed k (own_paths (with_publication h session d))
+own_but h session d k away =
+    sym (first_filtered k (own_paths h))
+    ∙ ap (first_keyed k) ((publication_moves h session d).own (same_key k) (all_from (λ (p : Path). same_key k p ≡ false) (moved_by_publication h session d) (λ p m. not_its p (moved_publication h session d p m))))
+    ∙ first_filtered k (own_paths (with_publication h session d))
+  where
+    not_its : (p : Path) → key_published h session (key_of d) ≡ Some (path_key p) → same_key k p ≡ false
+    not_its p is =
+        elim (same_key k p) as (λ t. same_key k p ≡ t → t ≡ false) [
+          | true ↦ λ t. absurd (away (is ∙ ap Some (keyed k p t)))
+          | false ↦ λ _. refl
+        ] refl
+
+pub covers_publication : (m m' : Marks) (h : Holdings) (session : ℕ) (d : Delta UpKey LabelNo) (cs : List RowChange) → UsesAreInRange h.feed → IsWithin m m' → m'.all ≡ false
     → ((k : VpnKey) → key_published h session (key_of d) ≡ Some k → IsCleanRoute m' (Vpn k) → ⊥)
     → ((i : InstanceId) → key_of d ≡ Up.Subscribe i → (a : Told) → a.address ≡ (told_in h.agents session).address → (k : Key) → IsCleanItem m' a k → IsRowOf h i k → ⊥)
     → ((i : InstanceId) → key_of d ≡ Up.Subscribe i → (a b : Told) → a.address ≡ (told_in h.agents session).address → b.address ≡ (told_in h.agents session).address → (k : Key) → IsCleanItem m' a k → IsCleanItem m b k)
-    → AreRowsMarked m' (rows_by_key h (targets_by_publication h session d) (key_of d))
-    → AreRoutesMarked m' (keys_led h (targets_by_publication h session d)) → AreRoutesMarked m' (keys_led (with_publication h session d) (targets_by_publication h session d))
+    → AllByRecursion (IsRowChange h (with_publication h session d)) cs → ((i : InstanceId) (q : Block) → HasMoved h (with_publication h session d) i q → IsListed cs i q) → AreChangesMarked m' cs
     → Covers m m' h (with_publication h session d)
-covers_publication m m' h session d short within all own subscribed kept rows before after = record {
+covers_publication m m' h session d cs range within all own subscribed kept each every marked = record {
   addresses = publication_address h session d;
   peers = λ k clean. peers_by_routes h (with_publication h session d) k (λ v is.
       let here = subst (IsCleanRoute m') is clean in
-      publication_keys h session d short v (λ e. own v e here) (λ n. before all v n here) (λ n. after all v n here));
+      wanted_same h (with_publication h session d) v (own_but h session d v (λ e. own v e here)) (led_same m' all h (with_publication h session d) cs each every marked range range v here));
   agents = λ agent k clean. (by_key (key_of d) refl agent k clean).0;
   kept = λ agent k clean. (by_key (key_of d) refl agent k clean).1;
 }
   where
+    short : AreShort h.feed
+    short = λ u n. (range u n).1
+
     published : (j : InstanceId) (prefix : Block) → key_of d ≡ Up.Publish j prefix → (agent : ℕ) (k : Key) → IsCleanItem m' (told_in (with_publication h session d).agents agent) k → StaysClean m h (with_publication h session d) agent k
     published j prefix is agent k clean =
         let here = clean_as m' (told_in h.agents agent) (told_in (with_publication h session d).agents agent) (publication_address h session d agent) (publication_subscribes h session d j prefix is agent) k clean in (
-          publication_rows h session d j prefix is agent k (λ i q at subscribes.
-              publication_rows_by_key h session d short i q (λ n. rows all i q n (told_in h.agents agent) subscribes (subst (IsCleanItem m' (told_in h.agents agent)) at here))),
+          by_row h (with_publication h session d) agent k
+              (λ i q at. told_same h (with_publication h session d) agent i q (publication_subscribes h session d j prefix is agent i) (λ subscribes.
+              row_same m' all h (with_publication h session d) cs each every marked (told_in h.agents agent) i q subscribes (subst (IsCleanItem m' (told_in h.agents agent)) at here)))
+              (λ other. publication_rows h session d j prefix is agent k (λ i q at _. absurd (other i q at))),
           within.items (told_in h.agents agent) k here,
         )
 
@@ -230,3 +343,29 @@ covers_publication m m' h session d short within all own subscribed kept rows be
       where
         apart : (a b : ℕ) → a ≡ b → (a == b) ≡ false → ⊥
         apart a b same e = grind (arith, nat_tests)
+
+-- ---- where it is known what changed
+module _ {V : Type 0} (items : V → List RowChange) (m m' : Marks) (h : Holdings) (session : ℕ) (all : m'.all ≡ false) (within : IsWithin m m') (range : UsesAreInRange h.feed) where
+  abbrev IsTold : Holdings → Option V → Type 0
+  IsTold g changes = IfSome changes (λ rows. AllByRecursion (IsRowChange h g) (items rows))
+
+  abbrev IsWhole : Holdings → Option V → Type 0
+  IsWhole g changes = IfSome changes (λ rows. (i : InstanceId) (q : Block) → HasMoved h g i q → IsListed (items rows) i q)
+
+  abbrev IsMarked : Option V → Type 0
+  IsMarked changes = IfSome changes (λ rows. AreChangesMarked m' (items rows))
+
+  pub route_covered : (d : Delta VpnKey VpnRoute) (g : Holdings) → g ≡ with_route h session d → (changes : Option V) → is_some changes ≡ true → IsTold g changes → IsWhole g changes → IsMarked changes → Covers m m' h g
+  route_covered d g is None known each every marked = absurd (true≢false (sym known))
+  route_covered d g is (Some rows) known each every marked =
+      subst (λ (g : Holdings). IsTold g (Some rows) → IsWhole g (Some rows) → Covers m m' h g) (sym is) (λ each every. covers_route m m' h session d (items rows) range within all each every marked) each every
+
+  pub publication_covered : (d : Delta UpKey LabelNo) (g : Holdings) → g ≡ with_publication h session d → (changes : Option V) → is_some changes ≡ true
+      → ((k : VpnKey) → key_published h session (key_of d) ≡ Some k → IsCleanRoute m' (Vpn k) → ⊥)
+      → ((i : InstanceId) → key_of d ≡ Up.Subscribe i → (a : Told) → a.address ≡ (told_in h.agents session).address → (k : Key) → IsCleanItem m' a k → IsRowOf h i k → ⊥)
+      → ((i : InstanceId) → key_of d ≡ Up.Subscribe i → (a b : Told) → a.address ≡ (told_in h.agents session).address → b.address ≡ (told_in h.agents session).address → (k : Key) → IsCleanItem m' a k → IsCleanItem m b k)
+      → IsTold g changes → IsWhole g changes → IsMarked changes → Covers m m' h g
+  publication_covered d g is None known own subscribed kept each every marked = absurd (true≢false (sym known))
+  publication_covered d g is (Some rows) known own subscribed kept each every marked =
+      subst (λ (g : Holdings). IsTold g (Some rows) → IsWhole g (Some rows) → Covers m m' h g) (sym is)
+      (λ each every. covers_publication m m' h session d (items rows) range within all own subscribed kept each every marked) each every

@@ -1,9 +1,10 @@
 -- What may have changed of what sessions are to be told, since they were told last.
-use Rattle.std.specs.Prelude.{◌≡◌, ◌==◌, ℕ, List, map, Bool, if◌then◌else◌, true, false, is_some, refl}
+use Rattle.std.specs.Prelude.{◌≡◌, ◌≢◌, ◌⊎◌, ◌==◌, ℕ, List, map, Bool, if◌then◌else◌, true, false, is_some, refl}
 use Rattle.std.specs.declared.option.Option.{Option}
 use Rattle.std.specs.declared.option.Option.TheVariants.{Some, None}
 use Rattle.std.specs.Coded.{Coded, code_by, coded×, coded_bool, coded_list, coded_option}
 use Rattle.std.specs.FinMap.{get}
+use Rattle.std.specs.Option.{option_map}
 use Rattle.ov_sync.specs.Keyed.{map_of}
 use Rattle.ov_types.specs.contracts.keys.DownKey as down_keys
 use Rattle.ov_types.specs.contracts.prefix.Addr as addresses
@@ -24,6 +25,10 @@ use Rattle.vpn_tables.specs.NodeModel.Keys.{Key, Low, Row, Subscribe, Vpn, of_do
 use Rattle.vpn_tables.specs.NodeModel.Paths.{Holdings, Told}
 use Rattle.vpn_tables.specs.NodeModel.Wants.{wanted_by_peers}
 use Rattle.vpn_tables.specs.Listing.{told_in}
+use Rattle.vpn_tables.specs.At.{selected_at}
+use Rattle.vpn_tables.specs.Followed.{IsFollowed, key_led, led_of}
+use Rattle.vpn_tables.specs.declared.changes.Followed.{Followed}
+use Rattle.vpn_tables.specs.declared.changes.RowChange.{RowChange}
 use Rattle.control_change_laws.specs.Here.{port_here, wanted_on}
 use Rattle.control_wants.specs.declared.whom.Whom.{Whom}
 use Rattle.control_wants.specs.declared.whom.Whom.TheVariants.{Every, Only, Subscribers}
@@ -118,15 +123,6 @@ pub record Covers (d d' : Marks) (h h' : Holdings) : Type 0 where
 abbrev pub Covered : Marks → Marks → Holdings → Holdings → Type 0
 Covered d d' h h' = d'.all ≡ false → Covers d d' h h'
 
--- some rows are marked for the agents that subscribe them, and some keys for peers
-abbrev pub AreRowsMarked : Marks → List (InstanceId × Block) → Type 0
-AreRowsMarked d rows =
-    d.all ≡ false → (i : InstanceId) (q : Block) → Member (i, q) rows → (a : Told)
-    → is_some (get a.map (Subscribe i)) ≡ true → IsCleanItem d a (Row i q) → ⊥
-
-abbrev pub AreRoutesMarked : Marks → List VpnKey → Type 0
-AreRoutesMarked d keys = d.all ≡ false → (k : VpnKey) → Member k keys → IsCleanRoute d (Vpn k) → ⊥
-
 -- the rows of an instance with these prefixes are marked of such agents
 abbrev pub AreTableRowsMarked : Marks → Whom → InstanceId → List (Block × TableRow) → Type 0
 AreTableRowsMarked d whom i rows =
@@ -138,3 +134,85 @@ abbrev pub AreListsMarked : Marks → ℕ → List (LowKey × LowValue) → Type
 AreListsMarked d from objects =
     d.all ≡ false → (to : ℕ) (v : LowValue) → Member (key.Acl from to, v) objects → (a : Told)
     → IsCleanItem d a (Low (key.Acl from to)) → ⊥
+
+-- ---- what changed is marked
+-- a key that may not be there is marked of peers
+abbrev pub IsKeyMarked : Marks → Option VpnKey → Type 0
+IsKeyMarked d key = (k : VpnKey) → key ≡ Some k → IsCleanRoute d (Vpn k) → ⊥
+
+-- two of them are, where something is so
+abbrev pub AreKeysMarked : Marks → Type 0 → Option VpnKey → Option VpnKey → Type 0
+AreKeysMarked d Differs before after = d.all ≡ false → Differs → IsKeyMarked d before × IsKeyMarked d after
+
+-- the row is marked of those who subscribe it, where another path is selected
+abbrev pub IsRowMarked : Marks → RowChange → Type 0
+IsRowMarked d c =
+    d.all ≡ false → c.before.path ≢ c.after.path → (a : Told) → is_some (get a.map (Subscribe c.instance)) ≡ true
+    → IsCleanItem d a (Row c.instance c.prefix) → ⊥
+
+pub record IsChangeMarked (d : Marks) (c : RowChange) : Type 0 where
+  pub row : IsRowMarked d c
+  pub right : AreKeysMarked d (c.before.led_right ≢ c.after.led_right) (key_led c.before.led_right) (key_led c.after.led_right)
+  pub left : AreKeysMarked d (c.before.led_left ≢ c.after.led_left) (key_led c.before.led_left) (key_led c.after.led_left)
+
+abbrev pub AreChangesMarked : Marks → List RowChange → Type 0
+AreChangesMarked d cs = (c : RowChange) → Member c cs → IsChangeMarked d c
+
+-- ---- nothing else is marked
+-- of peers such keys alone are marked then that were not marked before, and of agents such keys
+pub record MarksOnly (OfPeers : Key → Type 0) (OfAgents : Told → Key → Type 0) (d d' : Marks) : Type 0 where
+  pub routes : (k : Key) → IsCleanRoute d k → (OfPeers k → ⊥) → IsCleanRoute d' k
+  pub items : (a : Told) (k : Key) → IsCleanItem d a k → (OfAgents a k → ⊥) → IsCleanItem d' a k
+
+abbrev pub no_route : Key → Type 0
+no_route k = ⊥
+
+abbrev pub no_item : Told → Key → Type 0
+no_item a k = ⊥
+
+-- a key of peers that may not be there
+abbrev pub IsKey : Option VpnKey → Key → Type 0
+IsKey key k = option_map Vpn key ≡ Some k
+
+-- one of two of them, where something is so
+abbrev pub IsEither : Type 0 → Option VpnKey → Option VpnKey → Key → Type 0
+IsEither Differs before after k = Differs × (IsKey before k ⊎ IsKey after k)
+
+-- the row, where another path is selected
+abbrev pub IsRowMoved : RowChange → Told → Key → Type 0
+IsRowMoved c a k = (c.before.path ≢ c.after.path) × (k ≡ Row c.instance c.prefix)
+
+-- the key of a route that leads on from an end before a row change or after it, and not both
+abbrev pub IsLedMoved : RowChange → Key → Type 0
+IsLedMoved c k =
+    (right : Bool) × IsEither (led_of right c.before ≢ led_of right c.after) (key_led (led_of right c.before)) (key_led (led_of right c.after)) k
+
+-- of one of some row changes
+abbrev pub IsOfLed : List RowChange → Key → Type 0
+IsOfLed cs k = (c : RowChange) × (Member c cs × IsLedMoved c k)
+
+abbrev pub IsOfRow : List RowChange → Told → Key → Type 0
+IsOfRow cs a k = (c : RowChange) × (Member c cs × IsRowMoved c a k)
+
+-- from the one holdings to the other, another route leads on, of a row from an end, and the key is that of the one or of
+-- the other
+pub record LedMoves (h h' : Holdings) (k : Key) : Type 0 where
+  pub instance : InstanceId
+  pub prefix : Block
+  pub before : Followed
+  pub after : Followed
+  pub was : IsFollowed h instance prefix before
+  pub is : IsFollowed h' instance prefix after
+  pub right : Bool
+  pub moved : IsEither (led_of right before ≢ led_of right after) (key_led (led_of right before)) (key_led (led_of right after)) k
+
+-- from the one holdings to the other, another path is selected for the row
+pub record RowMoves (h h' : Holdings) (k : Key) : Type 0 where
+  pub instance : InstanceId
+  pub prefix : Block
+  pub key_is : k ≡ Row instance prefix
+  pub other : selected_at h instance prefix ≢ selected_at h' instance prefix
+
+-- what a change of a peer's route marks at most
+abbrev pub MarksByRoute : VpnKey → Holdings → Holdings → Marks → Marks → Type 0
+MarksByRoute own h h' = MarksOnly (λ k. (k ≡ Vpn own) ⊎ LedMoves h h' k) (λ a k. RowMoves h h' k)

@@ -5,7 +5,7 @@ ghost use Rattle.vpn_tables.specs.NodeModel.Directions.{down_order, vpn_order};
 ghost use Rattle.vpn_tables.specs.NodeModel.Keys.{Key, Vpn, of_down};
 ghost use Rattle.vpn_tables.specs.NodeModel.Members.{Member};
 ghost use Rattle.vpn_tables.specs.NodeModel.Paths.{Told};
-ghost use Rattle.control_wants.specs.Marks.{IsCleanItem, IsCleanRoute, IsWithin, is_of};
+ghost use Rattle.control_wants.specs.Marks.{IsCleanItem, IsCleanRoute, IsWithin, MarksOnly, is_of, no_item, no_route};
 
 use crate::whom::{Whom, joined};
 use ov_sync::{Delta, SyncIn};
@@ -91,17 +91,6 @@ impl Dirty {
         self.addresses.contains(&address)
     }
 
-    /// Whether nothing is marked of peers. It takes no memory.
-    pub fn is_clean(&self) -> bool
-        ensures all { result ≡ true → self.now.all ≡ false }
-        ensures clean { result ≡ true → (k : Key) → IsCleanRoute self.now k }
-    {
-        if self.all {
-            return false;
-        }
-        self.routes.iter().len() == 0
-    }
-
     /// Whether nothing is marked of the agents at an address. It takes no memory.
     pub fn is_clean_at(&self, address: Addr) -> bool
         ensures all { result ≡ true → self.now.all ≡ false }
@@ -145,6 +134,7 @@ impl Dirty {
     pub fn add_route(&mut self, key: VpnKey)
         ensures within { IsWithin self.old self.new }
         ensures marked { self.new.all ≡ false → IsCleanRoute self.new (Vpn key) → ⊥ }
+        ensures only { MarksOnly (λ k. k ≡ Vpn key) no_item self.old self.new }
     {
         match self.routes.apply(Delta::Put(key, ())) {
             Ok(()) => {}
@@ -158,6 +148,7 @@ impl Dirty {
         ensures within { IsWithin self.old self.new }
         ensures marked { self.new.all ≡ false → (a : Told) → is_of a key whom ≡ true
             → IsCleanItem self.new a (of_down key) → ⊥ }
+        ensures only { MarksOnly no_route (λ a k. k ≡ of_down key) self.old self.new }
     {
         let all_of = joined(self.items.get(&key).copied(), whom);
         match self.items.apply(Delta::Put(key, all_of)) {

@@ -1,5 +1,6 @@
 //! Changes that peers and agents told.
-ghost use Rattle.std.specs.Prelude.{◌≡◌, true, false, None, Some, IfOk, OnOk, OnErr};
+ghost use Rattle.std.specs.List.{AllByRecursion};
+ghost use Rattle.std.specs.Prelude.{◌≡◌, ◌≢◌, ◌<◌, true, false, is_some, None, Some, IfOk, IfSome, OnOk, OnErr};
 ghost use Rattle.ov_sync.specs.Keyed.{key_of};
 ghost use Rattle.ov_types.specs.Prefix.{Block};
 ghost use Rattle.ov_types.specs.declared.keys.DownKey.TheVariants as down;
@@ -7,23 +8,27 @@ ghost use Rattle.ov_types.specs.declared.keys.UpKey.TheVariants as Up;
 ghost use Rattle.ov_types.specs.declared.numbers.InstanceId.{InstanceId as InstanceOf};
 ghost use Rattle.ov_types.specs.declared.vpn.VpnKey.{VpnKey as KeyOf};
 ghost use Rattle.vpn_tables.specs.NodeModel.Keys.{Key, Row, Vpn};
+ghost use Rattle.vpn_tables.specs.NodeModel.Members.{Member};
 ghost use Rattle.vpn_tables.specs.NodeModel.Paths.{Told};
 ghost use Rattle.vpn_tables.specs.Changes.{with_publication, with_route};
 ghost use Rattle.vpn_tables.specs.Listing.{told_in};
-ghost use Rattle.vpn_tables.specs.Moved.{targets_by_publication, targets_by_route};
-ghost use Rattle.vpn_tables.specs.Touched.{rows_by_key, touched_rows};
-ghost use Rattle.vpn_tables.specs.TouchedKeys.{key_published, keys_led};
+ghost use Rattle.vpn_tables.specs.Followed.{HasMoved, IsListed, IsRowChange, key_led};
+ghost use Rattle.vpn_tables.specs.TouchedKeys.{key_published};
 ghost use Rattle.control_change_laws.specs.Here.{IsRowOf};
-ghost use Rattle.control_wants.specs.Marks.{AreRoutesMarked, AreRowsMarked, AreTableRowsMarked};
-ghost use Rattle.control_wants.specs.Marks.{Covered, IsCleanItem, IsCleanRoute, IsWithin, is_of};
+ghost use Rattle.control_wants.specs.Marks.{AreChangesMarked, AreKeysMarked, AreTableRowsMarked};
+ghost use Rattle.control_wants.specs.Marks.{Covered, IsChangeMarked, IsCleanItem, IsCleanRoute, IsEither, IsKey};
+ghost use Rattle.control_wants.specs.Marks.{IsKeyMarked, IsLedMoved, IsOfLed, IsOfRow, IsRowMarked, IsRowMoved};
+ghost use Rattle.control_wants.specs.Marks.{IsWithin, MarksByRoute, MarksOnly, is_of, no_item, no_route};
 
 use crate::dirty::Dirty;
 use crate::whom::Whom;
 use ov_sync::Delta;
 use ov_types::{
-    Addr, DownKey, InstanceId, Label, NoMemory, Prefix, TableRow, Target, UpKey, VpnKey, VpnRoute,
+    Addr, DownKey, InstanceId, Label, NoMemory, Prefix, TableRow, UpKey, VpnKey, VpnRoute,
 };
-use vpn_tables::VpnTables;
+use std::marker::Brand;
+use std::sync::ledger::{Blank, Ledger};
+use vpn_tables::{Route, RowChange, Steps, VpnTables};
 
 /// The key of a change.
 pub(crate) fn key_of<K: Copy, V>(delta: &Delta<K, V>) -> K
@@ -32,16 +37,6 @@ pub(crate) fn key_of<K: Copy, V>(delta: &Delta<K, V>) -> K
     match delta {
         Delta::Put(key, _) => *key,
         Delta::Drop(key) => *key,
-    }
-}
-
-/// Marks rows, of the agents that subscribe them.
-fn mark_rows(dirty: &mut Dirty, rows: &[(InstanceId, Prefix)])
-    ensures within { IsWithin dirty.old dirty.new }
-    ensures marked { AreRowsMarked dirty.new rows.now }
-{
-    for (instance, prefix) in rows {
-        dirty.add_item(DownKey::Route(*instance, *prefix), Whom::Subscribers);
     }
 }
 
@@ -83,68 +78,123 @@ fn mark_subscribed(dirty: &mut Dirty, tables: &VpnTables, address: Addr, instanc
     }
 }
 
-/// Marks keys of peers.
-fn mark_routes(dirty: &mut Dirty, keys: &[VpnKey])
+/// Marks of peers the key of a route that leads on, where there is one.
+fn mark_led(dirty: &mut Dirty, led: Option<Route>)
     ensures within { IsWithin dirty.old dirty.new }
-    ensures marked { AreRoutesMarked dirty.new keys.now }
+    ensures marked { dirty.new.all ≡ false → IsKeyMarked dirty.new (key_led led) }
+    ensures only { MarksOnly (IsKey (key_led led)) no_item dirty.old dirty.new }
 {
-    for key in keys {
-        dirty.add_route(*key);
+    match led {
+        Some(route) => dirty.add_route(VpnKey {
+            rd: route.path.rd,
+            prefix: route.prefix,
+        }),
+        None => {}
     }
 }
 
-/// Marks the keys of routes that may lead on along what these targets touch.
-fn mark_led(dirty: &mut Dirty, tables: &VpnTables, targets: &[Target])
+/// Marks the keys of the one before a change and of the one after it, where they are not one.
+fn mark_led_change(dirty: &mut Dirty, before: Option<Route>, after: Option<Route>)
     ensures within { IsWithin dirty.old dirty.new }
-    ensures marked { AreRoutesMarked dirty.new (keys_led tables.now targets.now) }
+    ensures marked { AreKeysMarked dirty.new (before ≢ after) (key_led before) (key_led after) }
+    ensures only { MarksOnly (IsEither (before ≢ after) (key_led before) (key_led after)) no_item dirty.old dirty.new }
 {
-    match tables.keys_led(targets) {
-        Ok(keys) => mark_routes(dirty, &keys),
-        Err(_) => dirty.set_all(),
+    if before != after {
+        mark_led(dirty, before);
+        mark_led(dirty, after);
     }
 }
 
-/// Marks what a change of a peer's route touches, before it is applied. Gives its targets.
-fn mark_route(
-    dirty: &mut Dirty,
-    tables: &VpnTables,
-    session: u16,
-    delta: &Delta<VpnKey, VpnRoute>,
-) -> Result<Vec<Target>, NoMemory>
+/// Marks a row of the agents that subscribe it, where another path is selected.
+fn mark_row(dirty: &mut Dirty, change: &RowChange)
     ensures within { IsWithin dirty.old dirty.new }
-    ensures targets { IfOk result (λ targets. targets.items ≡ targets_by_route tables.now session delta.now) }
-    ensures rows { OnOk result (AreRowsMarked dirty.new
-        (touched_rows tables.now (targets_by_route tables.now session delta.now) (key_of delta.now).prefix)) }
-    ensures led { OnOk result (AreRoutesMarked dirty.new
-        (keys_led tables.now (targets_by_route tables.now session delta.now))) }
+    ensures marked { IsRowMarked dirty.new change.now }
+    ensures only { MarksOnly no_route (IsRowMoved change.now) dirty.old dirty.new }
 {
-    let targets = tables.targets_by_route(session, delta)?;
-    let rows = tables.touched_by_route(session, delta)?;
-    mark_rows(dirty, &rows);
-    mark_led(dirty, tables, &targets);
-    Ok(targets)
+    if change.before.path != change.after.path {
+        dirty.add_item(
+            DownKey::Route(change.instance, change.prefix),
+            Whom::Subscribers,
+        );
+    }
 }
 
-/// Marks what a change of what an agent told touches, before it is applied. Gives its targets.
-fn mark_publication(
-    dirty: &mut Dirty,
-    tables: &VpnTables,
-    session: u16,
-    delta: &Delta<UpKey, Label>,
-) -> Result<Vec<Target>, NoMemory>
+/// Marks what a row change changes of what sessions are to be told.
+fn mark_change(dirty: &mut Dirty, change: &RowChange)
     ensures within { IsWithin dirty.old dirty.new }
-    ensures targets { IfOk result (λ targets. targets.items
-        ≡ targets_by_publication tables.now session delta.now) }
-    ensures rows { OnOk result (AreRowsMarked dirty.new
-        (rows_by_key tables.now (targets_by_publication tables.now session delta.now) (key_of delta.now))) }
-    ensures led { OnOk result (AreRoutesMarked dirty.new
-        (keys_led tables.now (targets_by_publication tables.now session delta.now))) }
+    ensures marked { IsChangeMarked dirty.new change.now }
+    ensures only { MarksOnly (IsLedMoved change.now) (IsRowMoved change.now) dirty.old dirty.new }
 {
-    let targets = tables.targets_by_publication(session, delta)?;
-    let rows = tables.touched_by_publication(session, delta)?;
-    mark_rows(dirty, &rows);
-    mark_led(dirty, tables, &targets);
-    Ok(targets)
+    mark_row(dirty, change);
+    mark_led_change(dirty, change.before.led_right, change.after.led_right);
+    mark_led_change(dirty, change.before.led_left, change.after.led_left);
+}
+
+fn mark_changes(dirty: &mut Dirty, changes: &[RowChange])
+    ensures within { IsWithin dirty.old dirty.new }
+    ensures marked { AreChangesMarked dirty.new changes.now }
+    ensures only { MarksOnly (IsOfLed changes.now) (IsOfRow changes.now) dirty.old dirty.new }
+{
+    for change in changes {
+        mark_change(dirty, change);
+    }
+}
+
+/// Marks what changed, where that is known, and everything otherwise.
+fn mark_known(dirty: &mut Dirty, changes: Option<Vec<RowChange>>)
+    ensures within { IsWithin dirty.old dirty.new }
+    ensures marked { IfSome changes (λ rows. AreChangesMarked dirty.new rows.items) }
+    ensures all { dirty.new.all ≡ false → is_some changes ≡ true }
+    ensures only { IfSome changes (λ rows.
+        MarksOnly (IsOfLed rows.items) (IsOfRow rows.items) dirty.old dirty.new) }
+    ensures none { changes ≡ None → dirty.new ≡ record dirty.old { all = true } }
+{
+    match changes {
+        Some(rows) => mark_changes(dirty, &rows),
+        None => dirty.set_all(),
+    }
+}
+
+/// Applies a change of a peer's route, and gives what it changed.
+fn change_route<L: Ledger>(
+    tables: &mut VpnTables,
+    session: u16,
+    delta: Delta<VpnKey, VpnRoute>,
+    blank: Blank,
+) -> Result<Option<Vec<RowChange>>, NoMemory>
+    requires name { blank.name ≡ L.name }
+    requires parts { blank.parts ≡ L.parts }
+    requires some { 0 < blank.parts }
+    ensures ok { OnOk result (tables.new ≡ with_route tables.old session delta) }
+    ensures err { OnErr result (tables.new ≡ tables.old) }
+    ensures each { IfOk result (λ changes. IfSome changes (λ rows.
+        AllByRecursion (IsRowChange tables.old tables.new) rows.items)) }
+    ensures every { IfOk result (λ changes. IfSome changes (λ rows. (i : InstanceOf) (q : Block)
+        → HasMoved tables.old tables.new i q → IsListed rows.items i q)) }
+{
+    let mut steps = Steps::<L>::new(blank);
+    tables.change_peer_route(session, delta, &mut steps)
+}
+
+/// Applies a change of what an agent told, and gives what it changed.
+fn change_publication<L: Ledger>(
+    tables: &mut VpnTables,
+    session: u16,
+    delta: Delta<UpKey, Label>,
+    blank: Blank,
+) -> Result<Option<Vec<RowChange>>, NoMemory>
+    requires name { blank.name ≡ L.name }
+    requires parts { blank.parts ≡ L.parts }
+    requires some { 0 < blank.parts }
+    ensures ok { OnOk result (tables.new ≡ with_publication tables.old session delta) }
+    ensures err { OnErr result (tables.new ≡ tables.old) }
+    ensures each { IfOk result (λ changes. IfSome changes (λ rows.
+        AllByRecursion (IsRowChange tables.old tables.new) rows.items)) }
+    ensures every { IfOk result (λ changes. IfSome changes (λ rows. (i : InstanceOf) (q : Block)
+        → HasMoved tables.old tables.new i q → IsListed rows.items i q)) }
+{
+    let mut steps = Steps::<L>::new(blank);
+    tables.change_publication(session, delta, &mut steps)
 }
 
 /// Marks the key under which a publication is told, and of an agent that subscribes the rows of the instance.
@@ -184,20 +234,11 @@ impl Dirty {
         ensures within { IsWithin self.old self.new }
         ensures covers { Covered self.old self.new tables.old tables.new }
     {
-        // (for its clause: no held use has more than 15 services)
-        tables.uses_are_short();
+        tables.uses_are_in_range();
         mark_own(self, tables, session, &key_of(&delta));
-        match mark_publication(self, tables, session, &delta) {
-            Ok(targets) => {
-                tables.set_publication(session, delta)?;
-                mark_led(self, tables, &targets);
-                Ok(())
-            }
-            Err(_) => {
-                self.set_all();
-                tables.set_publication(session, delta)
-            }
-        }
+        let changes = change_publication::<Brand>(tables, session, delta, Blank::new(1))?;
+        mark_known(self, changes);
+        Ok(())
     }
 
     /// Applies a change that a peer told on its session, and marks what it may change.
@@ -211,20 +252,12 @@ impl Dirty {
         ensures err { OnErr result (tables.new ≡ tables.old) }
         ensures within { IsWithin self.old self.new }
         ensures covers { Covered self.old self.new tables.old tables.new }
+        ensures only { MarksByRoute (key_of delta) tables.old tables.new self.old self.new }
     {
-        // (for its clause: no held use has more than 15 services)
-        tables.uses_are_short();
+        tables.uses_are_in_range();
         self.add_route(key_of(&delta));
-        match mark_route(self, tables, session, &delta) {
-            Ok(targets) => {
-                tables.set_peer_route(session, delta)?;
-                mark_led(self, tables, &targets);
-                Ok(())
-            }
-            Err(_) => {
-                self.set_all();
-                tables.set_peer_route(session, delta)
-            }
-        }
+        let changes = change_route::<Brand>(tables, session, delta, Blank::new(1))?;
+        mark_known(self, changes);
+        Ok(())
     }
 }

@@ -1,5 +1,6 @@
 //! Lines of numbers and addresses, made of octets from their end to their front, without a formatter.
 ghost use Rattle.std.specs.Prelude.{◌≡◌, ◌≤◌, ◌+◌, ◌/◌, ◌++◌, ◌^◌, [], length, decimal};
+ghost use Rattle.std.specs.Prelude.{IsTrue};
 ghost use Rattle.ov_types.specs.Texts.{address_text, distinguisher_text, kinded_text, prefix_text};
 ghost use Rattle.report.specs.Objects.{range_text};
 

@@ -24,7 +24,7 @@ use Rattle.path_select.proofs.NodeModel.Selection.{selected_found, selected_leas
 use Rattle.path_select.specs.declared.selection.Path.{Path}
 use Rattle.path_select.specs.Selection.{IsFirstOfLeast, is_better, numbers, plain}
 use Rattle.path_select.specs.NodeModel.Tables.{table_row}
-use Rattle.vpn_holdings.specs.At.{IsChosen, paths_at, row_at, shown}
+use Rattle.vpn_holdings.specs.At.{IsChosen, paths_at, shown}
 
 -- ---- places and members
 member_at : (xs : List Path) (i : ℕ) (x : Path) → slice_get xs i ≡ Some x → Member x xs
@@ -98,6 +98,3 @@ chosen_path h i q paths None e c = none_chosen h i q (nothing (paths_at h i q) (
     nothing [] f = refl
     nothing (p ∷ ps) f = absurd (f p (inl refl))
 chosen_path h i q paths (Some x) e c = one_chosen h i q x ((e x).0 c.0) (λ y m. c.1 y ((e y).1 m))
-
-pub chosen_row : (h : Holdings) (i : InstanceId) (q : Block) (paths : List Path) (row : Option Path) → ((p : Path) → Member p paths ↔ Member p (paths_at h i q)) → IsChosen paths row → row_at h i q ≡ option_map shown row
-chosen_row h i q paths row e c = shown_plain (get (table h i) q) ∙ ap (option_map shown) (chosen_path h i q paths row e c)

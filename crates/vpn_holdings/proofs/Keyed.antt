@@ -38,9 +38,6 @@ one_first (Some p) left = refl
 pub found_one : (k : VpnKey) (o : Option Path) (left : List Path) (p : Path) (whole : Option Path) → first_keyed k (cons_option o []) ≡ Some p → first_keyed k (cons_option o left) ≡ whole → Some p ≡ whole
 found_one k o left p whole e h = found_first k (cons_option o []) left p whole e (ap (first_keyed k) (one_first o left) ∙ h)
 
-pub not_found_one : (k : VpnKey) (o : Option Path) (left : List Path) (whole : Option Path) → first_keyed k (cons_option o []) ≡ None → first_keyed k (cons_option o left) ≡ whole → first_keyed k left ≡ whole
-not_found_one k o left whole e h = not_found_first k (cons_option o []) left whole e (ap (first_keyed k) (one_first o left) ∙ h)
-
 pub first_is : (k : VpnKey) (ps : List Path) (x : Path) → first_keyed k ps ≡ Some x → Member x ps × (same_key k x ≡ true)
 first_is k [] x e = absurd (none_some x e)
 first_is k (p ∷ ps) x e =

@@ -356,23 +356,3 @@ module _ (h : Holdings) (k : VpnKey) (short : AreShort h.feed) (numbered : AreNu
       by_both none (Some p) y ex ey = absurd (nothing true p none ex)
       by_both none None (Some p) ex ey = absurd (nothing false p none ey)
       by_both none None None ex ey = none ∙ sym (λ j. first_some (ex j) (ey j))
-
--- ---- along no other use
-pub led_elsewhere : (h : Holdings) (i : InstanceId) (u : Use) (p : Path) → AreShort h.feed → Member u (uses h.feed) → Member p (flat_map (leads h) (sides_of u)) → has_target (target_of h.asn i ∷ []) p ≡ true → use_of i ≡ u.number
-led_elsewhere h i u p short m n t =
-    let f = from_flat_map (leads h) p (sides_of u) n in
-    let s : Side = f.0 in
-    let chain : s.chain ≡ u = of_use f.1 in
-    let l = from_leads h s p f.2 in
-    let by = from_towards h (hop_at s (suc l.depth)) p.prefix (publisher h (circuit_at s (suc l.depth))) p l.towards_it in
-    let is : i ≡ hop_at s (suc l.depth) = only (target_from h.asn (hop_at s (suc l.depth)) (i ∷ []) p (ap (λ (p : Path). p.targets) (sym by.2)) t) in
-    (leads_into h s i p l (subst (λ (w : Use). w.services ≤ 15) (sym chain) (short u m)) is).number ∙ ap (λ (w : Use). w.number) chain
-  where
-    only : {j : InstanceId} → Member j (i ∷ []) → i ≡ j
-    only (inl e) = e
-    only (inr e) = absurd e
-
-    of_use : {s : Side} → Member s (sides_of u) → s.chain ≡ u
-    of_use (inl e) = ap (λ (s : Side). s.chain) (sym e)
-    of_use (inr (inl e)) = ap (λ (s : Side). s.chain) (sym e)
-    of_use (inr (inr e)) = absurd e

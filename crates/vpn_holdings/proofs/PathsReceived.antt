@@ -29,7 +29,6 @@ use Rattle.path_select.proofs.NodeModel.Members.{contains_of, from_filter, from_
 use Rattle.path_select.proofs.NodeModel.Orders.{key_exact, key_total}
 use Rattle.path_select.specs.declared.selection.Path.{Path}
 use Rattle.path_select.specs.Selection.{plain}
-use Rattle.vpn_holdings.specs.Changes.{with_nothing}
 use Rattle.vpn_holdings.specs.Listing.{told_in}
 use Rattle.vpn_holdings.specs.Moved.{map_at}
 use Rattle.vpn_holdings.specs.Indexed.{AreInOrder, AreLabels, AreRoutes, as_route, block_at, has_one, if_told, is_label_to, is_route_to, label_at, label_in, label_order, label_path, path_of_label, path_of_route, published_at, received_at, route_at, route_in, route_of, route_order, route_path, told_by_peer, vpn_key, wanted_by}
@@ -118,9 +117,6 @@ from_numbered s n (x ∷ maps) m (inr h) = let q = from_numbered s (n + 1) maps 
     more n p = omega arith
 
 -- ---- the agent of a session
-abbrev none_at : ℕ → Told
-none_at n = with_nothing n (record { 0 = 0 })
-
 told_member : (agents : List Told) (n : ℕ) (k : Key) (v : Value) → get (told_in agents n).map k ≡ Some v → Member (told_in agents n) agents × ((told_in agents n).session ≡ n)
 told_member [] n k v h = absurd (none_some v (sym (get-empty key_cmp k) ∙ h))
 told_member (a ∷ agents) n k v h =

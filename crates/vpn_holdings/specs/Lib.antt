@@ -8,7 +8,6 @@ pub mod Changes
 pub mod Seats
 pub mod Answers
 pub mod Routes
-pub mod Least
 pub mod Leading
 pub mod Listing
 pub mod At

@@ -1,4 +1,4 @@
-//! The row of an instance for one prefix: one walk over the paths to that prefix.
+//! The paths of an instance to one prefix: one walk over what is told with that prefix.
 ghost use Rattle.std.specs.Prelude.{◌≡◌, ◌↔◌, ◌≤◌, ◌++◌, [], IsTrue, OnOk, IfOk, map};
 ghost use Rattle.std.specs.List.{cons_option, list_any};
 ghost use Rattle.std.specs.Option.{option_map};
@@ -8,7 +8,7 @@ ghost use Rattle.path_select.specs.NodeModel.Reaching.{subnets};
 ghost use Rattle.path_select.specs.NodeModel.Tables.{same_prefix};
 ghost use Rattle.path_select.specs.declared.selection.Path.{Path as PathOf};
 ghost use Rattle.path_select.specs.Selection.{plain};
-ghost use Rattle.vpn_holdings.specs.At.{IsChosen, led_at, led_from, paths_at, publishes_to, row_at, shown};
+ghost use Rattle.vpn_holdings.specs.At.{led_at, led_from, paths_at, publishes_to};
 ghost use Rattle.vpn_holdings.specs.Indexed.{received_at};
 ghost use Rattle.vpn_holdings.specs.Routes.{path_of};
 
@@ -17,33 +17,12 @@ use crate::holdings::VpnHoldings;
 use crate::reaching::is_among;
 use crate::received::{keep, push_labels, push_routes};
 use crate::routes::{Route, is_same};
-use ov_types::{InstanceId, NoMemory, Prefix, TableRow, UpKey};
-use path_select::{Path, select};
+use ov_types::{InstanceId, NoMemory, Prefix, UpKey};
+use path_select::Path;
 use route_targets::{UseHop, hop_of, rd, target};
 
 /// The session that a re-originated path counts as of.
 const OWN_SESSION: u16 = 65535;
-
-/// The path that is used.
-fn best_of(paths: &[Path]) -> Option<Path>
-    ensures { IsChosen paths.now result }
-{
-    match select(paths) {
-        Some(place) => Some(paths[place]),
-        None => None,
-    }
-}
-
-fn row_of(path: Option<Path>) -> Option<TableRow>
-    ensures { result ≡ option_map shown path }
-{
-    let path = path?;
-    Some(TableRow {
-        rd: path.rd,
-        next_hop: path.next_hop,
-        label: path.label,
-    })
-}
 
 /// Whether what a key publishes is to a prefix.
 pub(crate) fn is_to(key: &UpKey, prefix: &Prefix) -> bool
@@ -56,15 +35,6 @@ pub(crate) fn is_to(key: &UpKey, prefix: &Prefix) -> bool
 }
 
 impl VpnHoldings {
-    /// The row of an instance for a prefix, where it has one: what `table` has there. It looks at what `paths_at` does.
-    pub fn row(&self, i: InstanceId, prefix: &Prefix) -> Result<Option<TableRow>, NoMemory>
-        ensures { IfOk result (λ row. row ≡ row_at self.now i prefix.now) }
-    {
-        let paths = self.paths_at(i, prefix)?;
-        let best = best_of(paths.as_slice());
-        Ok(row_of(best))
-    }
-
     /// The paths of an instance to a prefix, in some order: the received ones, and the re-originated ones. It looks at
     /// what was told with this prefix alone, and for a place of a use at what was told within it too.
     pub fn paths_at(&self, i: InstanceId, prefix: &Prefix) -> Result<Vec<Path>, NoMemory>
@@ -81,7 +51,7 @@ impl VpnHoldings {
 
     /// The paths of an instance to a prefix, of those that it received, in some order. It looks at what was told with
     /// this prefix alone.
-    pub fn received_at(&self, i: InstanceId, prefix: &Prefix) -> Result<Vec<Path>, NoMemory>
+    fn received_at(&self, i: InstanceId, prefix: &Prefix) -> Result<Vec<Path>, NoMemory>
         ensures { IfOk result (λ paths. (p : PathOf)
             → Member p paths.items ↔ Member p (received_at self.now i prefix.now)) }
     {

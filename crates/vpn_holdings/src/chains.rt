@@ -14,7 +14,7 @@ use std::marker::Model;
 /// A held use, seen from one of its ends. A distance counts places from that end: place 0 is before the first service
 /// from the left, and each further one behind the next.
 #[derive(Drop)]
-pub struct Side<'a> {
+pub(crate) struct Side<'a> {
     number: u16,
     left: InstanceId,
     right: InstanceId,
@@ -47,15 +47,15 @@ impl<'a> Model for Side<'a> {
 
 impl<'a> Side<'a> {
     /// The number of the use, by which its object is held.
-    pub fn number(&self) -> u16
+    pub(crate) fn number(&self) -> u16
         ensures number { result ≡ self.now.chain.number }
         ensures at_most { result ≤ 3071 }
     {
         self.number
     }
 
-    /// How many services the use has, which is the number of its last place.
-    pub fn services(&self) -> u8
+    /// How many services it has, and so the last of its places.
+    pub(crate) fn services(&self) -> u8
         ensures number { result ≡ self.now.chain.services }
         ensures at_most { result ≤ 15 }
     {
@@ -63,28 +63,21 @@ impl<'a> Side<'a> {
     }
 
     /// The network at the left end, whichever end it is seen from.
-    pub fn left(&self) -> InstanceId
+    pub(crate) fn left(&self) -> InstanceId
         ensures { result ≡ self.now.chain.left }
     {
         self.left
     }
 
     /// The network at the right end, whichever end it is seen from.
-    pub fn right(&self) -> InstanceId
+    pub(crate) fn right(&self) -> InstanceId
         ensures { result ≡ self.now.chain.right }
     {
         self.right
     }
 
-    /// Whether it is seen from the right end.
-    pub fn is_right(&self) -> bool
-        ensures { result ≡ self.now.is_right }
-    {
-        self.is_right
-    }
-
     /// The subnets of the network at the end that it is seen from.
-    pub fn subnets(&self) -> &'a [Prefix]
+    pub(crate) fn subnets(&self) -> &'a [Prefix]
         ensures { result.now ≡ subnets self.now }
     {
         if self.is_right {
@@ -95,7 +88,7 @@ impl<'a> Side<'a> {
     }
 
     /// The instance of the place at a distance.
-    pub fn hop_at(&self, distance: u8) -> InstanceId
+    pub(crate) fn hop_at(&self, distance: u8) -> InstanceId
         requires { distance ≤ self.now.chain.services }
         ensures { result ≡ hop_at self.now distance }
     {
@@ -106,9 +99,9 @@ impl<'a> Side<'a> {
         }
     }
 
-    /// The circuit in the place at a distance that leads towards the end: that of the service between the place and the
-    /// next one nearer, where the distance is not 0.
-    pub fn circuit_at(&self, distance: u8) -> u32
+    /// The circuit there that leads towards the end: of the service between the place and the next one nearer, where the
+    /// distance is not 0.
+    pub(crate) fn circuit_at(&self, distance: u8) -> u32
         requires { distance ≤ self.now.chain.services }
         ensures circuit { result ≡ circuit_at self.now distance }
         ensures at_most { result ≤ 131071 }
@@ -121,7 +114,7 @@ impl<'a> Side<'a> {
     }
 
     /// How far a place of the use is from the end.
-    pub fn distance_of(&self, place: u8) -> u8
+    pub(crate) fn distance_of(&self, place: u8) -> u8
         requires { place ≤ self.now.chain.services }
         ensures distance { result ≡ distance self.now place }
         ensures within { result ≤ self.now.chain.services }
@@ -165,7 +158,7 @@ pub(crate) fn side_of<'a>(key: &LowKey, value: &'a LowValue, is_right: bool) -> 
 impl VpnHoldings {
     /// The held use of a number, seen from an end: none where the object that is held at its key is no use. It takes no
     /// memory.
-    pub fn side(&self, number: u16, is_right: bool) -> Option<Side<'_>>
+    pub(crate) fn side(&self, number: u16, is_right: bool) -> Option<Side<'_>>
         ensures { result ≡ side_at self.now.feed number is_right }
     {
         let key = LowKey::ChainUse(number);

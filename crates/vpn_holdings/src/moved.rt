@@ -23,9 +23,7 @@ use route_targets::target;
 fn push_targets(targets: &mut Vec<Target>, route: &VpnRoute) -> Result<(), NoMemory>
     ensures { OnOk result (targets.new.items ≡ targets.old.items ++ route.now.targets) }
 {
-    for target in route.targets.items() {
-        targets.push(*target)?;
-    }
+    targets.extend_from_slice(route.targets.items())?;
     Ok(())
 }
 

@@ -1,19 +1,17 @@
 //! Which instances are known and imported, and the routes of the agents' publications.
-ghost use Rattle.std.specs.Prelude.{◌≡◌, ◌≤◌, ◌<◌, [], None, map};
-ghost use Rattle.std.specs.List.{cons_option, filter};
+ghost use Rattle.std.specs.Prelude.{◌≡◌, ◌≤◌, ◌<◌, None};
 ghost use Rattle.std.specs.Option.{option_map};
 ghost use Rattle.path_select.specs.NodeModel.Keys.{of_up};
 ghost use Rattle.path_select.specs.NodeModel.Values.{Label as LabelOf};
 ghost use Rattle.path_select.specs.NodeModel.Reaching.{published_by, publisher};
 ghost use Rattle.path_select.specs.NodeModel.Uses.{is_known};
-ghost use Rattle.path_select.specs.NodeModel.Paths.{has_target, own_path};
+ghost use Rattle.path_select.specs.NodeModel.Paths.{own_path};
 ghost use Rattle.path_select.specs.NodeModel.Tables.{same_prefix};
 ghost use Rattle.vpn_holdings.specs.Routes.{path_of};
 ghost use Rattle.vpn_holdings.specs.Touched.{imports_one};
 ghost use Rattle.vpn_holdings.specs.Views.{agent_of};
 
 use crate::holdings::{Agent, VpnHoldings};
-use crate::imports::Imports;
 use ov_types::{Addr, InstanceId, Label, LowKey, Prefix, Target, UpKey};
 use path_select::Path;
 use route_targets::{circuit_address, circuit_instance, hop_of, rd, target};
@@ -77,7 +75,7 @@ impl VpnHoldings {
 
     /// Whether an import of an instance has one of these targets: of none where the instance is not known. It takes no
     /// memory.
-    pub fn imports_any(&self, i: InstanceId, targets: &[Target]) -> bool
+    pub(crate) fn imports_any(&self, i: InstanceId, targets: &[Target]) -> bool
         ensures { result ≡ imports_one self.now targets.now i }
     {
         self.imported(i).has_any(targets)
@@ -104,25 +102,5 @@ impl VpnHoldings {
             path,
             target: target(self.asn, instance),
         })
-    }
-
-    /// The route of a publication, where its instance is known and among some imports.
-    pub(crate) fn imported_route(
-        &self,
-        agent: &Agent,
-        key: &UpKey,
-        label: Label,
-        imports: &Imports<'_>,
-    ) -> Option<Route>
-        ensures { map path_of (cons_option result []) ≡ filter (has_target imports.now)
-            (cons_option (own_path self.now (agent_of agent.now) (of_up key.now) (LabelOf label)) []) }
-    {
-        let UpKey::Publish(instance, _) = *key else {
-            return None;
-        };
-        if !imports.has(target(self.asn, instance)) {
-            return None;
-        }
-        self.own_route(agent, key, label)
     }
 }

@@ -3,6 +3,9 @@ mod Order
 mod Keeping
 mod UpStays
 mod Touching
+mod LedStays
+mod MovedRows
+pub mod Differing
 mod Same
 mod Less
 mod Alike

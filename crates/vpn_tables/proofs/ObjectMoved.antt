@@ -63,6 +63,10 @@ pub record Moves (k : LowKey) (agents : List Told) (j : InstanceId) (q : Block) 
   pub held : Member agent agents
   pub publishes : Publishes agent j q
 
+-- where the same instances are known, none moves
+abbrev None_moves : InstanceId → Block → Type 0
+None_moves j q = ⊥
+
 -- of two holdings that differ by this object alone
 module _ (h g : Holdings) (k : LowKey) (asn : g.asn ≡ h.asn) (peers : g.peers ≡ h.peers) (agents : g.agents ≡ h.agents) (stays : (j : LowKey) → k ≢ j → object h.feed j ≡ object g.feed j) (short : AreShort h.feed) where
   use_stays : (i : InstanceId) → is_hop i ≡ true → is_of k i ≡ false → held_use h.feed i ≡ held_use g.feed i
@@ -120,6 +124,32 @@ module _ (h g : Holdings) (k : LowKey) (asn : g.asn ≡ h.asn) (peers : g.peers 
     publishers = λ c. inl (ap (λ (ts : List Told). published_in ts c) (sym agents));
   }
 
+  pub moved_known : ((i : InstanceId) → is_of k i ≡ true → is_known h.feed i ≡ is_known g.feed i) → IsMoved h g (is_of k) None_moves
+  moved_known known = record {
+    asn = asn;
+    imported = imports_stay;
+    paths = λ p m.
+        let r = own_route_from h p m in
+        inl (own_route_in g p (record {
+          agent = r.agent;
+          instance = r.instance;
+          told = subst (Member r.agent) (sym agents) r.told;
+          publishes = r.publishes;
+          known = sym (known_same r.instance) ∙ r.known;
+          rd = r.rd;
+          next_hop = r.next_hop;
+          targets = r.targets ∙ ap (λ a. target_of a r.instance ∷ []) (sym asn);
+          session = r.session;
+        }));
+    peers = moved.peers;
+    held = held_stays;
+    along = moved.along;
+    publishers = λ c. inl (ap (λ (ts : List Told). published_in ts c) (sym agents));
+  }
+    where
+      known_same : (i : InstanceId) → is_known h.feed i ≡ is_known g.feed i
+      known_same i = elim (is_of k i) as (λ t. is_of k i ≡ t → is_known h.feed i ≡ is_known g.feed i) [ true ↦ known i | false ↦ known_stays i ] refl
+
 -- ---- a change of an object
 module _ (h : Holdings) (d : Delta LowKey LowValue) (short_h : AreShort h.feed) (short_g : AreShort (with_low h d).feed) where
   abbrev later : Holdings
@@ -153,6 +183,14 @@ module _ (h : Holdings) (d : Delta LowKey LowValue) (short_h : AreShort h.feed) 
   object_entry r other none =
       let c = clean r.instance r.prefix other none in
       alike h later (is_of k) (Moves k h.agents) there back short_h short_g r c (clean_too h later (is_of k) (Moves k h.agents) there back r.instance r.prefix c)
+
+  -- of an instance that stays known
+  pub known_entry : ((i : InstanceId) → is_of k i ≡ true → is_known h.feed i ≡ is_known later.feed i) → (r : RowKey) → is_of k r.instance ≡ false → entry_of h r ≡ entry_of later r
+  known_entry known r other =
+      let there : IsMoved h later (is_of k) None_moves = moved_known h later k refl refl refl (object_stays h.feed d) short_h known in
+      let back : IsMoved later h (is_of k) None_moves = moved_known later h k refl refl refl (λ j e. sym (object_stays h.feed d j e)) short_g (λ i own. sym (known i own)) in
+      let c : IsClean h (is_of k) None_moves r.instance r.prefix = record { other = other; row = λ j m. absurd m; of_use = λ s held row j x m. absurd m } in
+      alike h later (is_of k) None_moves there back short_h short_g r c (clean_too h later (is_of k) None_moves there back r.instance r.prefix c)
 
   -- of an attachment or an access list
   none_of : (j : LowKey) (i : InstanceId) → makes_rows j ≡ false → is_of j i ≡ false

@@ -37,11 +37,11 @@ use Rattle.vpn_holdings.specs.At.{selected_at}
 use Rattle.vpn_holdings.specs.Changes.{with_low}
 use Rattle.vpn_holdings.specs.Gathered.{UsesAreInRange, held_keys, prefix_in, prefixes_in, prefixes_told}
 use Rattle.control_change_laws.proofs.Wanted.{at_row}
-use Rattle.vpn_tables.specs.Changing.{instances_of, is_of, own_rows, rows_by_object, rows_published, subnets_by, subnets_of}
+use Rattle.vpn_tables.specs.Changing.{instances_of, is_of, own_rows, rows_by_object, rows_published, stays_known, subnets_by, subnets_of}
 use Rattle.vpn_tables.specs.Stored.{entry_of, nothing_stored}
 use Rattle.vpn_tables.specs.declared.stored.RowKey.{RowKey}
 use Rattle.vpn_tables.proofs.AgentMoved.{not_true}
-use Rattle.vpn_tables.proofs.ObjectMoved.{object_entry}
+use Rattle.vpn_tables.proofs.ObjectMoved.{known_entry, object_entry}
 use Rattle.vpn_tables.proofs.UpStays.{hop_number, side_parts}
 
 -- ---- what was told
@@ -202,6 +202,21 @@ put_is h k v =
     ap as_object (get-insert key_total h.feed (Low k) (Object v) (Low k))
     ∙ ap (λ b. as_object (cond b (Some (Object v)) (get h.feed (Low k)))) (ap is_eq (tied_itself key_total (Low k)))
 
+-- an instance that is held is known before and after
+known_still : (h : Holdings) (k : LowKey) (v : LowValue) → stays_known h k ≡ true → (i : InstanceId) → is_of k i ≡ true → is_known h.feed i ≡ is_known (with_low h (Put k v)).feed i
+known_still h (key.Instance n) v stays i own =
+    let g = with_low h (Put (key.Instance n) v) in
+    network h.feed stays ∙ sym (network g.feed (ap is_some (put_is h (key.Instance n) v)))
+  where
+    network : (feed : Map) → is_some (object feed (key.Instance n)) ≡ true → is_known feed i ≡ true
+    network feed held =
+        let t = test_not (is_hop i) (i.0 == n) own in
+        ap (λ b. cond b (is_place (place_of i) (held_use feed i)) (is_some (object feed (key.Instance i.0)))) t.0
+        ∙ ap (λ (m : ℕ). is_some (object feed (key.Instance m))) (eqb-true i.0 n t.1) ∙ held
+known_still h (key.ChainUse n) v stays i own = absurd (true≢false (sym stays))
+known_still h (key.Attach n) v stays i own = absurd (true≢false (sym stays))
+known_still h (key.Acl m n) v stays i own = absurd (true≢false (sym stays))
+
 -- of an instance that is not known nothing follows
 nothing_unknown : (h : Holdings) (r : RowKey) → AreShort h.feed → is_known h.feed r.instance ≡ false → nothing_stored ≡ entry_of h r
 nothing_unknown h r short unknown = λ n. record {
@@ -249,9 +264,10 @@ put_entry h k v short_h short_g range_h range_g r none =
     let after = subnets_of k (Some v) in
     let row = at_row r.instance r.prefix in
     let published = flat_map (rows_published h k) (held_keys h) in
+    let others = cond (stays_known h k) [] published in
     elim (is_of k r.instance) as (λ t. is_of k r.instance ≡ t → entry_of h r ≡ entry_of g r) [
       | true ↦ λ own.
-          let elsewhere : IsNumber k → Member r.prefix (prefixes_told h ++ (before ++ after)) → ⊥ = λ b m. none (in_left row (own_rows h k (before ++ after)) published (own_listed h k r.instance r.prefix (before ++ after) b own m)) in
+          let elsewhere : IsNumber k → Member r.prefix (prefixes_told h ++ (before ++ after)) → ⊥ = λ b m. none (in_left row (own_rows h k (before ++ after)) others (own_listed h k r.instance r.prefix (before ++ after) b own m)) in
           sym (elim (is_known h.feed r.instance) as (λ t. is_known h.feed r.instance ≡ t → nothing_stored ≡ entry_of h r) [
             | true ↦ λ known. nothing_elsewhere h short_h k r.instance r.prefix own (λ m. elsewhere (known_number h k r.instance range_h own known) (more r.prefix (prefixes_told h) before (before ++ after) (in_left r.prefix before after) m))
             | false ↦ nothing_unknown h r short_h
@@ -261,5 +277,8 @@ put_entry h k v short_h short_g range_h range_g r none =
                 (λ m. in_right r.prefix before after (subst (λ (o : Option LowValue). Member r.prefix (subnets_of k o)) (put_is h k v) m)) m))
             | false ↦ nothing_unknown g r short_g
           ] refl
-      | false ↦ λ other. object_entry h (Put k v) short_h short_g r other (λ m. none (in_right row (own_rows h k (before ++ after)) published m))
+      | false ↦ λ other. elim (stays_known h k) as (λ t. stays_known h k ≡ t → (Member row (cond t [] published) → ⊥) → entry_of h r ≡ entry_of g r) [
+        | true ↦ λ stays _. known_entry h (Put k v) short_h short_g (known_still h k v stays) r other
+        | false ↦ λ _ away. object_entry h (Put k v) short_h short_g r other away
+      ] refl (λ m. none (in_right row (own_rows h k (before ++ after)) others m))
     ] refl

@@ -38,7 +38,7 @@ pub entry_same : (h g : Holdings) (k : RowKey) → get (table h k.instance) k.pr
 entry_same h g k row up = λ n. record { path = option_map plain (row n); is_up_right = up true n; is_up_left = up false n }
 
 -- ---- a route
-covers_all : (asn : ℕ) (moved : List Path) → Covers asn moved None (flat_map (λ (p : Path). p.targets) moved)
+pub covers_all : (asn : ℕ) (moved : List Path) → Covers asn moved None (flat_map (λ (p : Path). p.targets) moved)
 covers_all asn moved = record {
   paths = λ p t m n. in_flat_map (λ (p : Path). p.targets) p t moved m n;
   published = λ i e. cc;

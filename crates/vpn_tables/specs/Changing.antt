@@ -1,5 +1,5 @@
 -- The rows that a change of an agent's address, or of an object, may change.
-use Rattle.std.specs.Prelude.{ℕ, List, [], ◌∷◌, ◌++◌, map, Bool, true, false, ◌==◌, nat_le, if◌then◌else◌}
+use Rattle.std.specs.Prelude.{ℕ, List, [], ◌∷◌, ◌++◌, map, Bool, true, false, ◌==◌, is_some, nat_le, if◌then◌else◌}
 use Rattle.std.specs.declared.option.Option.{Option}
 use Rattle.std.specs.declared.option.Option.TheVariants.{Some, None}
 use Rattle.std.specs.List.{flat_map}
@@ -27,10 +27,6 @@ rows_by_agent h session =
     flat_map (λ k. rows_by_key h (targets_by_publication h session (Drop k)) k) (keys_told (told_in h.agents session))
 
 -- ---- an instance or a use
--- the object by which an instance is known, and by which it imports
-abbrev pub object_of : InstanceId → LowKey
-object_of i = if is_hop i then key.ChainUse (use_of i) else key.Instance i.0
-
 -- the instances of an object: of a use as many places as one may have. There are 3072 numbers of uses
 abbrev pub instances_of : LowKey → List InstanceId
 instances_of (key.Instance n) = record { 0 = n } ∷ []
@@ -66,6 +62,12 @@ abbrev pub rows_published : Holdings → LowKey → UpKey → List (InstanceId �
 rows_published h k (Up.Publish i prefix) = if is_of k i then touched_rows h (target_of h.asn i ∷ []) prefix else []
 rows_published h k (Up.Subscribe i) = []
 
+-- an instance that is held stays known where it is put anew: what it imports may change alone
+abbrev pub stays_known : Holdings → LowKey → Bool
+stays_known h (key.Instance n) = is_some (object h.feed (key.Instance n))
+stays_known h _ = false
+
 abbrev pub rows_by_object : Holdings → LowKey → LowValue → List (InstanceId × Block)
 rows_by_object h k v =
-    own_rows h k (subnets_of k (object h.feed k) ++ subnets_of k (Some v)) ++ flat_map (rows_published h k) (held_keys h)
+    own_rows h k (subnets_of k (object h.feed k) ++ subnets_of k (Some v))
+    ++ (if stays_known h k then [] else flat_map (rows_published h k) (held_keys h))

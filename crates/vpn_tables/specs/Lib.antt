@@ -2,6 +2,7 @@
 pub mod Stored
 pub mod Listed
 pub mod Changing
+pub mod Followed
 -- What is passed on of `vpn_holdings`, so that the crates above need not list it.
 pub use Rattle.vpn_holdings.specs.Answers
 pub use Rattle.vpn_holdings.specs.At

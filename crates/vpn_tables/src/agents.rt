@@ -14,19 +14,6 @@ use std::marker::Brand;
 use std::sync::ledger::{Blank, Ledger};
 use vpn_holdings::VpnHoldings;
 
-/// Appends some rows.
-pub(crate) fn push_rows(
-    rows: &mut Vec<(InstanceId, Prefix)>,
-    more: &[(InstanceId, Prefix)],
-) -> Result<(), NoMemory>
-    ensures { OnOk result (rows.new.items ≡ rows.old.items ++ more.now) }
-{
-    for row in more {
-        rows.push(*row)?;
-    }
-    Ok(())
-}
-
 /// The rows that what the agent of a session told touches.
 fn touched_by_agent(
     alloc: Global,
@@ -39,7 +26,7 @@ fn touched_by_agent(
     let keys = held.keys_told(session)?;
     for key in &keys {
         let touched = held.touched_by_publication(session, &Delta::Drop(*key))?;
-        push_rows(&mut rows, touched.as_slice())?;
+        rows.extend_from_slice(touched.as_slice())?;
     }
     Ok(rows)
 }

@@ -1,27 +1,24 @@
 //! What is asked of what is held.
 ghost use Rattle.std.specs.FinMap.{get};
 ghost use Rattle.std.specs.Option.{option_map};
-ghost use Rattle.std.specs.Prelude.{◌≡◌, ◌≤◌, ◌<◌, ◌↔◌, IfOk, IfSome, None, is_some, map, option_copied, true};
+ghost use Rattle.std.specs.Prelude.{◌≡◌, ◌≤◌, ◌<◌, IfOk, IfSome, None, is_some, map, option_copied, true};
 ghost use Rattle.vpn_holdings.specs.NodeLaws.Quiet.{PublishesNothing};
 ghost use Rattle.ov_sync.specs.Keyed.{key_of};
 ghost use Rattle.path_select.specs.NodeModel.Keys.{Subscribe};
 ghost use Rattle.path_select.specs.NodeModel.Maps.{object};
-ghost use Rattle.path_select.specs.NodeModel.Members.{Member};
 ghost use Rattle.path_select.specs.NodeModel.Paths.{own_paths};
 ghost use Rattle.path_select.specs.NodeModel.Reaching.{AreShort, publisher, reoriginated_paths};
 ghost use Rattle.path_select.specs.NodeModel.Tables.{known_instances};
 ghost use Rattle.path_select.specs.NodeModel.Uses.{imports, is_known};
 ghost use Rattle.path_select.specs.NodeModel.Wants.{slice, subscriptions};
-ghost use Rattle.path_select.specs.declared.selection.Path.{Path as PathOf};
-ghost use Rattle.vpn_holdings.specs.Answers.{is_up_at, rows_at, side_at};
-ghost use Rattle.vpn_holdings.specs.At.{paths_at, row_at};
+ghost use Rattle.vpn_holdings.specs.Answers.{is_up_at, rows_at};
+ghost use Rattle.vpn_holdings.specs.At.{row_at};
 ghost use Rattle.vpn_holdings.specs.Gathered.{UsesAreInRange, held_keys, in_order};
-ghost use Rattle.vpn_holdings.specs.Indexed.{received_at};
 ghost use Rattle.vpn_holdings.specs.Listing.{sliced, told_in};
 ghost use Rattle.vpn_holdings.specs.Moved.{targets_by_publication, targets_by_route};
 ghost use Rattle.vpn_holdings.specs.Ranges.{Fits};
 ghost use Rattle.vpn_holdings.specs.Routes.{path_of};
-ghost use Rattle.vpn_holdings.specs.Touched.{imports_one, rows_by_key, touched_rows};
+ghost use Rattle.vpn_holdings.specs.Touched.{rows_by_key, touched_rows};
 ghost use Rattle.vpn_holdings.specs.TouchedKeys.{first_keyed, key_published, keys_led};
 ghost use Rattle.vpn_holdings.specs.Views.{up_order};
 
@@ -33,8 +30,7 @@ use ov_types::{
     Addr, InstanceId, Label, LowKey, LowValue, NoMemory, Prefix, TableRow, Target, UpKey, VpnKey,
     VpnRoute,
 };
-use path_select::Path;
-use vpn_holdings::{Route, Side};
+use vpn_holdings::Route;
 
 /// What is held.
 impl VpnTables {
@@ -57,8 +53,14 @@ impl VpnTables {
     pub fn uses_are_short(&self)
         ensures { AreShort self.now.feed }
     {
-        // (for its clause: no held use has more than 15 services)
         self.held.uses_are_short();
+    }
+
+    /// Held uses have small numbers, and are short.
+    pub fn uses_are_in_range(&self)
+        ensures { UsesAreInRange self.now.feed }
+    {
+        self.held.uses_are_in_range();
     }
 
     /// Whether an instance is a held network's, or a place of a held use. It takes no memory.
@@ -80,22 +82,6 @@ impl VpnTables {
         ensures { IfOk result (λ instances. instances.items ≡ imports self.now.feed i) }
     {
         self.held.imports(i)
-    }
-
-    /// Whether an import of an instance has one of these targets: of none where the instance is not known. It takes no
-    /// memory.
-    pub fn imports_any(&self, i: InstanceId, targets: &[Target]) -> bool
-        ensures { result ≡ imports_one self.now targets.now i }
-    {
-        self.held.imports_any(i, targets)
-    }
-
-    /// The held use of a number, seen from an end: none where the object that is held at its key is no use. It takes no
-    /// memory.
-    pub fn side(&self, number: u16, is_right: bool) -> Option<Side<'_>>
-        ensures { result ≡ side_at self.now.feed number is_right }
-    {
-        self.held.side(number, is_right)
     }
 
     /// The address and the label of a circuit's publication; where two agents publish it, of the lower session. No
@@ -124,24 +110,6 @@ impl VpnTables {
         ensures { IfOk result (λ rows. rows.items ≡ rows_at self.now i) }
     {
         listed(self.alloc, &self.stored, i)
-    }
-
-    /// The paths of an instance to a prefix, in some order: the received ones, and the re-originated ones. It looks at
-    /// what was told with this prefix alone, and for a place of a use at what was told within it too.
-    pub fn paths_at(&self, i: InstanceId, prefix: &Prefix) -> Result<Vec<Path>, NoMemory>
-        ensures { IfOk result (λ paths. (p : PathOf)
-            → Member p paths.items ↔ Member p (paths_at self.now i prefix.now)) }
-    {
-        self.held.paths_at(i, prefix)
-    }
-
-    /// The paths of an instance to a prefix, of those that it received, in some order. It looks at what was told with
-    /// this prefix alone.
-    pub fn received_at(&self, i: InstanceId, prefix: &Prefix) -> Result<Vec<Path>, NoMemory>
-        ensures { IfOk result (λ paths. (p : PathOf)
-            → Member p paths.items ↔ Member p (received_at self.now i prefix.now)) }
-    {
-        self.held.received_at(i, prefix)
     }
 
     /// Whether a subnet of a side of the use that the instance is a hop of is reachable from there: false for another
@@ -251,28 +219,6 @@ impl VpnTables {
         self.held.targets_by_route(session, delta)
     }
 
-    /// The target before and after a change of what an agent told: that of the instance in which it publishes.
-    pub fn targets_by_publication(
-        &self,
-        session: u16,
-        delta: &Delta<UpKey, Label>,
-    ) -> Result<Vec<Target>, NoMemory>
-        ensures { IfOk result (λ targets. targets.items ≡ targets_by_publication self.now session delta.now) }
-    {
-        self.held.targets_by_publication(session, delta)
-    }
-
-    /// The rows that a change of paths to a prefix, with these targets before and after it, may change.
-    pub fn touched_rows(
-        &self,
-        targets: &[Target],
-        prefix: Prefix,
-    ) -> Result<Vec<(InstanceId, Prefix)>, NoMemory>
-        ensures { IfOk result (λ rows. rows.items ≡ touched_rows self.now targets.now prefix) }
-    {
-        self.held.touched_rows(targets, prefix)
-    }
-
     /// The rows that a change of a peer's route may change.
     pub fn touched_by_route(
         &self,
@@ -285,7 +231,7 @@ impl VpnTables {
         self.held.touched_by_route(session, delta)
     }
 
-    /// The rows that a change of what an agent told may change; a subscription changes none.
+    /// The rows that a change of what an agent told may change: of a subscription none.
     pub fn touched_by_publication(
         &self,
         session: u16,

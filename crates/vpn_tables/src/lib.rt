@@ -4,6 +4,7 @@
 
 mod agents;
 mod asked;
+mod changes;
 mod counted;
 mod dropping;
 mod following;
@@ -12,5 +13,7 @@ mod objects;
 mod stored;
 mod tables;
 
+pub use changes::{Followed, RowChange};
+pub use path_select::Steps;
 pub use tables::VpnTables;
-pub use vpn_holdings::{Route, Side, in_order};
+pub use vpn_holdings::{Route, in_order};

@@ -9,11 +9,10 @@ ghost use Rattle.node_model.specs.Maps.{object};
 ghost use Rattle.vpn_holdings.specs.Changes.{with_low};
 ghost use Rattle.vpn_holdings.specs.Gathered.{held_keys, prefixes_told};
 ghost use Rattle.vpn_holdings.specs.Ranges.{Fits};
-ghost use Rattle.vpn_tables.specs.Changing.{instances_of, is_of, makes_rows, own_rows, rows_by_object, rows_published, subnets_of};
+ghost use Rattle.vpn_tables.specs.Changing.{instances_of, is_of, makes_rows, own_rows, rows_by_object, rows_published, stays_known, subnets_of};
 ghost use Rattle.vpn_tables.specs.Stored.{AreStored, entry_of, key_at};
 ghost use Rattle.vpn_tables.specs.declared.stored.RowKey.{RowKey as RowKeyOf};
 
-use crate::agents::push_rows;
 use crate::dropping::refresh_stored;
 use crate::following::{keys_at, refresh};
 use crate::stored::{RowKey, Stored, drop_empty, make_places};
@@ -77,17 +76,8 @@ fn push_subnets(subnets: &mut Vec<Prefix>, of: &LowKey, value: &LowValue) -> Res
         ..
     } = value
     {
-        push_prefixes(subnets, left_prefixes.as_slice())?;
-        push_prefixes(subnets, right_prefixes.as_slice())?;
-    }
-    Ok(())
-}
-
-fn push_prefixes(prefixes: &mut Vec<Prefix>, more: &[Prefix]) -> Result<(), NoMemory>
-    ensures { OnOk result (prefixes.new.items ≡ prefixes.old.items ++ more.now) }
-{
-    for prefix in more {
-        prefixes.push(*prefix)?;
+        subnets.extend_from_slice(left_prefixes.as_slice())?;
+        subnets.extend_from_slice(right_prefixes.as_slice())?;
     }
     Ok(())
 }
@@ -151,7 +141,8 @@ fn push_published(
     }
     let targets = [target(held.asn(), instance)];
     let touched = held.touched_rows(&targets, prefix)?;
-    push_rows(rows, touched.as_slice())
+    rows.extend_from_slice(touched.as_slice())?;
+    Ok(())
 }
 
 /// Appends those that the publications in instances of an object touch.
@@ -166,7 +157,17 @@ fn push_all_published(rows: &mut Vec<Row>, held: &VpnHoldings, of: &LowKey) -> R
     Ok(())
 }
 
-/// The rows that an object which is put touches.
+/// Whether an object is an instance that is held, and so stays known where it is put anew.
+fn stays_known(held: &VpnHoldings, of: &LowKey) -> bool
+    ensures { result ≡ stays_known held.now of.now }
+{
+    match of {
+        LowKey::Instance(_) => held.low(of).is_some(),
+        _ => false,
+    }
+}
+
+/// The rows that an object which is put touches: of an instance that stays known, its own alone.
 fn touched_by_object(
     alloc: Global,
     held: &VpnHoldings,
@@ -176,7 +177,9 @@ fn touched_by_object(
     ensures { IfOk result (λ keys. keys.items ≡ map key_at (rows_by_object held.now of.now value.now)) }
 {
     let mut rows = own_rows(alloc, held, of, value)?;
-    push_all_published(&mut rows, held, of)?;
+    if !stays_known(held, of) {
+        push_all_published(&mut rows, held, of)?;
+    }
     keys_at(alloc, rows.as_slice())
 }
 

@@ -150,7 +150,8 @@ pub(crate) fn write(stored: &mut Stored, key: RowKey, entry: Entry)
         ≡ (if is_row k key then option_map (λ _. entry) (tree.get row_order stored.old key)
         else tree.get row_order stored.old k) }
 {
-    if stored.contains_key(&key) {
-        let _ = stored.insert(key, entry);
+    match stored.get_mut(&key) {
+        Some(place) => *place = entry,
+        None => {}
     }
 }

@@ -1,7 +1,9 @@
 use Rattle.std.proofs.Common.{◌≡◌, true, subst}
-use Rattle.control_wants.specs.Marks.{IsWithin, Marks, is_marked}
+use Rattle.vpn_tables.specs.NodeModel.Keys.{of_down}
+use Rattle.control_wants.specs.Marks.{IsWithin, Marks, MarksOnly, is_marked, no_route}
 use Rattle.control_wants.specs.contracts.dirty.Dirty.{the_view}
 use Rattle.control_wants.proofs.Growing.{put_marks, within_put}
+use Rattle.control_wants.proofs.Only.{only_put}
 use Rattle.control_wants.proofs.dirty.Dirty.add_item.Goals as goal
 
 pub returns-in-Ok-clause-within : goal.returns-in-Ok-clause-within
@@ -14,3 +16,9 @@ returns-in-Ok-clause-within c =
 pub returns-in-Ok-clause-marked : goal.returns-in-Ok-clause-marked
 returns-in-Ok-clause-marked c = λ all a is clean.
     put_marks (the_view c.self.inside) c.apply.new.self c.args.key c.joined-all_of.result c.in-Ok.ensures.ok a (c.joined-all_of.ensures.adds a c.args.key is) clean
+
+pub returns-in-Ok-clause-only : goal.returns-in-Ok-clause-only
+returns-in-Ok-clause-only c =
+    let before : Marks = the_view c.self.inside in
+    subst (λ (d : Marks). MarksOnly no_route (λ a k. k ≡ of_down c.args.key) d (record before { items = c.apply.new.self })) c.self.view_is
+    (only_put before c.apply.new.self c.args.key c.joined-all_of.result c.in-Ok.ensures.ok)

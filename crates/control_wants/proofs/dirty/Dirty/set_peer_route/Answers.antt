@@ -1,45 +1,34 @@
-use Rattle.std.proofs.Common.{List, subst, sym, ◌∙◌}
-use Rattle.ov_types.specs.declared.targets.Target.{Target}
+use Rattle.std.proofs.Common.{◌≡◌, subst}
+use Rattle.ov_sync.specs.Keyed.{key_of}
 use Rattle.ov_types.specs.declared.vpn.VpnKey.{VpnKey}
 use Rattle.vpn_tables.specs.NodeModel.Keys.{Vpn}
-use Rattle.vpn_tables.specs.NodeModel.Paths.{Holdings}
-use Rattle.vpn_tables.specs.Moved.{targets_by_route}
-use Rattle.vpn_tables.specs.TouchedKeys.{keys_led}
-use Rattle.control_wants.specs.Marks.{AreRoutesMarked, Covers, IsCleanRoute}
-use Rattle.control_wants.proofs.Growing.{marked_all, within_then}
+use Rattle.control_wants.specs.Marks.{Marks, MarksOnly, no_item}
+use Rattle.control_wants.proofs.Growing.{within_then}
 use Rattle.control_wants.proofs.Marking.{covers_itself}
-use Rattle.control_wants.proofs.Telling.{covers_route, routes_stay, rows_stay}
+use Rattle.control_wants.proofs.Only.{known_only, own_only}
+use Rattle.control_wants.proofs.Telling.{route_covered}
 use Rattle.control_wants.proofs.dirty.Dirty.set_peer_route.Goals as goal
 
-pub returns-in_err-set_peer_route-in-Ok-clause-within : goal.returns-in_err-set_peer_route-in-Ok-clause-within
-returns-in_err-set_peer_route-in-Ok-clause-within c = within_then _ _ _ c.add_route.ensures.within c.mark_route.ensures.within
+abbrev IsMarkedOnly : Marks → Marks → VpnKey → Type 0
+IsMarkedOnly d d' own = MarksOnly (λ k. k ≡ Vpn own) no_item d d'
 
-pub returns-in_ok-set_peer_route-in-Ok-clause-within : goal.returns-in_ok-set_peer_route-in-Ok-clause-within
-returns-in_ok-set_peer_route-in-Ok-clause-within c =
-    within_then _ _ _ (within_then _ _ _ c.add_route.ensures.within c.mark_route.ensures.within) c.mark_led.ensures.within
+pub returns-in_err-changes-clause-covers : goal.returns-in_err-changes-clause-covers
+returns-in_err-changes-clause-covers c = λ _.
+    covers_itself c.args.self.now c.add_route.new.self c.add_route.ensures.within c.args.tables.now c.change_route.new.tables c.in_err-changes.ensures.err
 
-pub returns-in_ok-set_peer_route-in-Ok-clause-covers : goal.returns-in_ok-set_peer_route-in-Ok-clause-covers
-returns-in_ok-set_peer_route-in-Ok-clause-covers c = λ all.
-    let m = c.args.self.now in
-    let m' = c.mark_led.new.dirty in
-    let h = c.args.tables.now in
-    let last = c.mark_led.ensures.within in
-    let since = within_then _ _ _ c.mark_route.ensures.within last in
-    let applied = c.in_ok-set_peer_route-in-Ok.ensures.ok in
-    let targets = c.deref.ensures.value ∙ c.in-Ok.ensures.targets in
-    subst (λ (g : Holdings). Covers m m' h g) (sym applied)
-    (covers_route m m' h c.args.session c.args.delta c.uses_are_short.ensures (within_then _ _ _ c.add_route.ensures.within since) all
-    (λ clean. c.add_route.ensures.marked (since.all all) (subst (λ (k : VpnKey). IsCleanRoute c.add_route.new.self (Vpn k)) (sym c.key_of.ensures) (since.routes _ clean)))
-    (rows_stay _ m' _ c.in-Ok.ensures.rows last)
-    (routes_stay _ m' _ c.in-Ok.ensures.led last)
-    (λ all. subst (λ (g : Holdings). AreRoutesMarked m' (keys_led g (targets_by_route h c.args.session c.args.delta))) applied
-    (subst (λ (ts : List Target). AreRoutesMarked m' (keys_led c.set_peer_route.new.self ts)) targets c.mark_led.ensures.marked) all))
+pub returns-clause-within : goal.returns-clause-within
+returns-clause-within c = within_then _ _ _ c.add_route.ensures.within c.mark_known.ensures.within
 
-pub returns-in-Err-clause-within : goal.returns-in-Err-clause-within
-returns-in-Err-clause-within c =
-    within_then _ _ _ (within_then _ _ _ c.add_route.ensures.within c.mark_route.ensures.within) (marked_all c.mark_route.new.dirty c.set_all.new.self c.set_all.ensures)
+pub returns-clause-covers : goal.returns-clause-covers
+returns-clause-covers c = λ all.
+    route_covered (λ v. v.items) c.args.self.now c.mark_known.new.dirty c.args.tables.now c.args.session all (within_then _ _ _ c.add_route.ensures.within c.mark_known.ensures.within) c.uses_are_in_range.ensures
+    c.args.delta c.change_route.new.tables c.in_ok-changes.ensures.ok _ (c.mark_known.ensures.all all) c.in_ok-changes.ensures.each c.in_ok-changes.ensures.every c.mark_known.ensures.marked
 
-pub returns-in_err-set_peer_route-in-Ok-clause-covers : goal.returns-in_err-set_peer_route-in-Ok-clause-covers
-returns-in_err-set_peer_route-in-Ok-clause-covers c = λ _.
-    covers_itself c.args.self.now c.mark_route.new.dirty (within_then _ _ _ c.add_route.ensures.within c.mark_route.ensures.within)
-    c.args.tables.now c.set_peer_route.new.self c.in_err-set_peer_route-in-Ok.ensures.err
+pub returns-in_err-changes-clause-only : goal.returns-in_err-changes-clause-only
+returns-in_err-changes-clause-only c =
+    own_only (key_of c.args.delta) c.args.tables.now c.change_route.new.tables c.args.self.now c.add_route.new.self (subst (IsMarkedOnly c.args.self.now c.add_route.new.self) c.key_of.ensures c.add_route.ensures.only)
+
+pub returns-clause-only : goal.returns-clause-only
+returns-clause-only c =
+    known_only (key_of c.args.delta) c.args.tables.now c.change_route.new.tables (λ v. v.items) c.args.self.now c.add_route.new.self c.mark_known.new.dirty
+    (subst (IsMarkedOnly c.args.self.now c.add_route.new.self) c.key_of.ensures c.add_route.ensures.only) _ c.in_ok-changes.ensures.each c.mark_known.ensures.only c.mark_known.ensures.none

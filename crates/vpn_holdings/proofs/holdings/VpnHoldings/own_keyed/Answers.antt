@@ -6,7 +6,7 @@ use Rattle.vpn_holdings.specs.Routes.{path_of}
 use Rattle.vpn_holdings.specs.TouchedKeys.{first_keyed}
 use Rattle.vpn_holdings.specs.Views.{agent_of}
 use Rattle.vpn_holdings.proofs.Keyed.{found_first, not_found_first}
-use Rattle.vpn_holdings.proofs.Offers.{agents_turn}
+use Rattle.vpn_holdings.proofs.Walks.{agents_turn}
 use Rattle.vpn_holdings.proofs.Walks.{own_of}
 use Rattle.vpn_holdings.proofs.holdings.VpnHoldings.own_keyed.Goals as goal
 
