@@ -9,7 +9,7 @@ use Rattle.node_core.specs.NodeModel.Wants.{wanted_by_peers}
 use Rattle.node_routes.specs.Beginning as route
 use Rattle.node_routes.specs.Told as routes
 use Rattle.vpn_tables.specs.Views.{peer_of}
-pub use Rattle.control_wants.specs.ControlChangeLaws.Here.{wanted_on}
+pub use Rattle.vpn_tables.specs.Here.{wanted_on}
 use Rattle.control_node.specs.Wanting.{is_idle, is_up}
 use Rattle.control_node.specs.declared.ends.AgentEnd.{AgentEnd}
 use Rattle.control_node.specs.declared.ends.PeerEnd.{PeerEnd}

@@ -29,12 +29,6 @@ within_itself d = record { all = λ e. e; routes = λ k c. c; items = λ a k c. 
 pub within_then : (a b c : Marks) → IsWithin a b → IsWithin b c → IsWithin a c
 within_then a b c v w = record { all = λ e. v.all (w.all e); routes = λ k n. v.routes k (w.routes k n); items = λ at k n. v.items at k (w.items at k n) }
 
-pub within_all : (d : Marks) → IsWithin d (record d { all = true })
-within_all d = record { all = λ e. absurd (cc); routes = λ k c. c; items = λ a k c. c }
-
-pub marked_all : (d d' : Marks) → d' ≡ record d { all = true } → IsWithin d d'
-marked_all d d' e = subst (IsWithin d) (sym e) (within_all d)
-
 pub within_address : (d : Marks) (at : Addr) → IsWithin d (record d { addresses = d.addresses ++ at ∷ [] })
 within_address d at = record { all = λ e. e; routes = λ k c. c; items = λ a k c. (λ n. c.0 (before_last a.address at d.addresses n), c.1) }
 

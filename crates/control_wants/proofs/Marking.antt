@@ -26,10 +26,10 @@ use Rattle.vpn_tables.proofs.NodeModel.Members.{none_some}
 use Rattle.vpn_tables.proofs.NodeModel.Wanted.{slice_is}
 use Rattle.vpn_tables.specs.Changes.{with_low}
 use Rattle.vpn_tables.specs.Listing.{told_in}
-use Rattle.control_change_laws.proofs.Objects.{instance_peers, instance_tables, object_stays, peers_stay, tables_stay}
-use Rattle.control_change_laws.specs.Here.{IsListOfPort, IsRowOf, port_here, put_by}
-use Rattle.control_change_laws.proofs.Ports.{held_object, object_put}
-use Rattle.control_change_laws.proofs.Slices.{any_object}
+use Rattle.vpn_tables.proofs.TablesStay.{instance_peers, instance_tables, object_stays, peers_stay, tables_stay}
+use Rattle.vpn_tables.specs.Here.{IsListOfPort, IsRowOf, port_here, put_by}
+use Rattle.vpn_tables.proofs.Ports.{held_object, object_put}
+use Rattle.vpn_tables.proofs.Slices.{any_object}
 use Rattle.control_wants.specs.Marks.{AreListsMarked, Covers, IsCleanItem, IsPort, IsWithin, Marks, seen_at}
 
 -- what is held stays, and more is marked

@@ -14,7 +14,7 @@ use Rattle.vpn_tables.specs.NodeModel.Paths.{Holdings}
 use Rattle.vpn_tables.specs.NodeModel.Values.{Entry}
 use Rattle.vpn_tables.specs.At.{row_at}
 use Rattle.vpn_tables.specs.Listing.{told_in}
-use Rattle.control_wants.specs.ControlChangeLaws.Here.{wanted_on}
+use Rattle.vpn_tables.specs.Here.{wanted_on}
 
 pub row_told : (h : Holdings) (session : ℕ) (i : InstanceId) (q : Block) (row : Option RouteEntry) → row ≡ option_map hop_of (row_at h i q)
     → (if is_some (get (told_in h.agents session).map (Subscribe i)) then option_map Entry row else None) ≡ get (wanted_on h session) (Row i q)

@@ -31,7 +31,7 @@ use Rattle.vpn_tables.proofs.NodeModel.Directions.{down_exact, down_keeps, down_
 use Rattle.vpn_tables.proofs.NodeModel.Orders.{key_total}
 use Rattle.vpn_tables.specs.Listing.{told_in}
 use Rattle.vpn_tables.specs.Views.{peer_of}
-use Rattle.control_wants.specs.ControlChangeLaws.Here.{wanted_on}
+use Rattle.vpn_tables.specs.Here.{wanted_on}
 use Rattle.control_wants.specs.Marks.{Marks, is_marked, is_of, marked_of}
 use Rattle.control_wants.specs.declared.whom.Whom.{Whom}
 use Rattle.control_wants.proofs.Sets.{found_entry}

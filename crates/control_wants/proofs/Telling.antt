@@ -45,11 +45,11 @@ use Rattle.vpn_tables.proofs.Choosing.{shown_plain}
 use Rattle.vpn_tables.proofs.Differing.{IsUnder, appended_same, keyed_same, selected_same}
 use Rattle.control_wants.specs.Entries.{hop_of}
 use Rattle.control_wants.proofs.OneKey.{no_row_wanted, route_wanted, row_wanted, told_value}
-use Rattle.control_change_laws.proofs.Covering.{moved_publication}
-use Rattle.control_change_laws.proofs.Filtering.{all_from}
-use Rattle.control_change_laws.proofs.Touching.{publication_moves}
-use Rattle.control_change_laws.specs.Here.{IsRowOf, wanted_on}
-use Rattle.control_change_laws.proofs.AgentRows.{publication_address, publication_rows, publication_subscribes, route_address, route_rows, same_elsewhere, subscription_elsewhere, subscription_rows_alone, with_route_agents}
+use Rattle.vpn_tables.proofs.Covering.{moved_publication}
+use Rattle.vpn_tables.proofs.Filtering.{all_from}
+use Rattle.vpn_tables.proofs.TouchedByChanges.{publication_moves}
+use Rattle.vpn_tables.specs.Here.{IsRowOf, wanted_on}
+use Rattle.vpn_tables.proofs.AgentRows.{publication_address, publication_rows, publication_subscribes, route_address, route_rows, same_elsewhere, subscription_elsewhere, subscription_rows_alone, with_route_agents}
 use Rattle.control_wants.specs.Marks.{AreChangesMarked, AreKeysMarked, AreListsMarked, AreTableRowsMarked, Covers, IsChangeMarked, IsCleanItem, IsCleanRoute, IsKeyMarked, IsRowMarked, IsWithin, Marks, is_of}
 use Rattle.control_wants.specs.declared.whom.Whom.{Whom}
 use Rattle.control_wants.proofs.Growing.{clean_as}

@@ -1,7 +1,6 @@
 -- The files of definitions, in the order in which they stand on each other.
 pub mod NodeCore
 pub mod Marks
-pub mod ControlChangeLaws
 pub mod Wanted
 pub mod Held
 pub mod Entries

@@ -29,7 +29,7 @@ use Rattle.vpn_tables.specs.At.{selected_at}
 use Rattle.vpn_tables.specs.Followed.{IsFollowed, key_led, led_of}
 use Rattle.vpn_tables.specs.declared.changes.Followed.{Followed}
 use Rattle.vpn_tables.specs.declared.changes.RowChange.{RowChange}
-use Rattle.control_change_laws.specs.Here.{port_here, wanted_on}
+use Rattle.vpn_tables.specs.Here.{port_here, wanted_on}
 use Rattle.control_wants.specs.declared.whom.Whom.{Whom}
 use Rattle.control_wants.specs.declared.whom.Whom.TheVariants.{Every, Only, Subscribers}
 

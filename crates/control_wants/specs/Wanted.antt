@@ -18,7 +18,7 @@ use Rattle.vpn_tables.specs.NodeModel.Values.{Route}
 use Rattle.vpn_tables.specs.NodeModel.Wants.{wanted_by_peers}
 use Rattle.vpn_tables.specs.Listing.{told_in}
 use Rattle.vpn_tables.specs.Views.{peer_of}
-use Rattle.control_wants.specs.ControlChangeLaws.Here.{wanted_on}
+use Rattle.vpn_tables.specs.Here.{wanted_on}
 use Rattle.control_wants.specs.Marks.{IsCleanItem, IsCleanRoute, Marks, is_of}
 use Rattle.control_wants.specs.declared.whom.Whom.{Whom}
 use Rattle.control_wants.specs.declared.peers.RoutesWanted.{RoutesWanted}

@@ -7,7 +7,7 @@ ghost use Rattle.vpn_tables.specs.NodeModel.Keys.{of_down};
 ghost use Rattle.vpn_tables.specs.NodeModel.Maps.{difference};
 ghost use Rattle.vpn_tables.specs.NodeModel.Members.{Member};
 ghost use Rattle.vpn_tables.specs.Listing.{told_in};
-ghost use Rattle.control_wants.specs.ControlChangeLaws.Here.{wanted_on};
+ghost use Rattle.vpn_tables.specs.Here.{wanted_on};
 ghost use Rattle.control_wants.specs.Marks.{Marks};
 ghost use Rattle.control_wants.specs.Marked.{AreMarkedItems, HasItsRow, marked_entry};
 ghost use Rattle.control_wants.specs.Wanted.{AreEachWanted, AreItems, IsSentToAgent, keys_of};

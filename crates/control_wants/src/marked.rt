@@ -7,7 +7,7 @@ ghost use Rattle.vpn_tables.specs.NodeModel.Keys.{Subscribe, of_down};
 ghost use Rattle.vpn_tables.specs.NodeModel.Values.{Entry as EntryOf};
 ghost use Rattle.control_wants.specs.Entries.{hop_of};
 ghost use Rattle.vpn_tables.specs.Listing.{told_in};
-ghost use Rattle.control_wants.specs.ControlChangeLaws.Here.{wanted_on};
+ghost use Rattle.vpn_tables.specs.Here.{wanted_on};
 ghost use Rattle.control_wants.specs.Marks.{is_of, is_subscribed};
 ghost use Rattle.control_wants.specs.Marked.{AreMarkedItems, HasItsRow, key_in};
 

@@ -12,7 +12,7 @@ ghost use Rattle.vpn_tables.specs.NodeModel.Paths.{Told};
 ghost use Rattle.vpn_tables.specs.NodeModel.Wants.{slice};
 ghost use Rattle.vpn_tables.specs.Changes.{with_low};
 ghost use Rattle.vpn_tables.specs.Ranges.{Fits};
-ghost use Rattle.control_change_laws.specs.Here.{IsListOfPort, IsRowOf, port_here, put_by};
+ghost use Rattle.vpn_tables.specs.Here.{IsListOfPort, IsRowOf, port_here, put_by};
 ghost use Rattle.control_wants.specs.Marks.{AreListsMarked, Covered, IsCleanItem, IsPort, IsWithin};
 
 use crate::dirty::Dirty;

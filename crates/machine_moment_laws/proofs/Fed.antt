@@ -39,9 +39,6 @@ record Lives (s t : Session) : Type 0 where
 lives_refl : (s : Session) → Lives s s
 lives_refl s = record { role = refl; live = λ e. (e, refl) }
 
-lives_trans : (s t u : Session) → Lives s t → Lives t u → Lives s u
-lives_trans s t u a b = record { role = b.role ∙ a.role; live = λ e. let q = b.live e in let p = a.live q.0 in (p.0, q.1 ∙ p.1) }
-
 lives_fed : (x : Setup) (s t : Session) → Lives s t → Fed x s → Fed x t
 lives_fed x s t l f role live = let q = l.live live in q.1 ∙ f (sym l.role ∙ role) q.0
 

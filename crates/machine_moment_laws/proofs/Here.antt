@@ -27,7 +27,7 @@ use Rattle.node_laws.proofs.NodeModel.Members.{any_in, from_any, from_filter, fr
 use Rattle.machine_model.specs.Events.{Edits, edits, moved, next}
 use Rattle.machine_model.specs.Moments.{IsLaidOut, NodePair, nodes}
 use Rattle.machine_model.specs.Network.{MachineState, asked, config}
-use Rattle.machine_model.specs.Session.{Agent, Message}
+use Rattle.machine_model.specs.Session.{Message}
 use Rattle.machine_model.specs.Setup.{Move, Name, Setup, checked, edited, edited_without, listed_by, moves, opening, stands}
 use Rattle.machine_model.proofs.Apart.{NamesApart}
 use Rattle.machine_model.proofs.Asking.{after_laid, names_of_nodes}
@@ -36,10 +36,9 @@ use Rattle.machine_model.proofs.Listed.{Stands, moved_nodes, moved_setup, resess
 use Rattle.machine_model.proofs.NodesFact.{pass_nodes}
 use Rattle.machine_model.proofs.Numbered.{AllFit, fits_edited}
 use Rattle.machine_model.proofs.Twins.{itself}
-use Rattle.machine_laws.specs.Goal.{IsLaid, role_of}
+use Rattle.machine_laws.specs.Goal.{IsLaid}
 use Rattle.machine_laws.specs.Headline.{IsOfForm, IsWritten}
 use Rattle.machine_laws.specs.Setups.{IsSoundSetup}
-use Rattle.machine_laws.proofs.Assembly.{role_agent}
 use Rattle.machine_laws.proofs.EachFact.{Comes, comes_there}
 use Rattle.machine_laws.proofs.Edited.{same_asn, written_edit}
 use Rattle.machine_laws.proofs.Final.{laid_out}
@@ -149,20 +148,6 @@ module _ (b : Checked) (ds : List Checked) (written : (c : Checked) → Member c
 
   pub site_lasts : (x : Setup) (ps : List NodePair) → Here x ps → (name : Name) → Member name (controller_names x.topology) → lasts name ≡ true
   site_lasts x ps h name m = control_lasts name (subst (Member name) (controls x ps h) m)
-
-  -- an agent that lasts is that of a node that stands
-  pub agent_stands : (x : Setup) (ps : List NodePair) → Here x ps → (name : Name) → role_of x name ≡ Agent → lasts name ≡ true → IsOfStanding name
-  agent_stands x ps h name is e =
-      let c = role_agent x name is in
-      let k = found_member name x.topology.nodes c.0 c.1 in
-      let there : Member name (node_names x.topology) = subst (λ (n : Name). Member n (node_names x.topology)) k.1 (in_map (λ (n : Node). n.name) c.0 x.topology.nodes k.0) in
-      elim (from_lasts name e) as (λ _. IsOfStanding name) [
-        | inl l ↦ absurd ((names x ps h).no_computer_config name there l)
-        | inr r ↦ elim r as (λ _. IsOfStanding name) [
-          | inl l ↦ absurd ((names x ps h).kinds_apart name name (subst (Member name) (sym (controls x ps h)) l) there refl)
-          | inr s ↦ s
-        ]
-      ]
 
   -- ---- an accepted edit
   any_size : Name → Message → ℕ

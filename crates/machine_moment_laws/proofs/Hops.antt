@@ -69,10 +69,6 @@ module _ (t : Ties) (cs : List Config) where
   within_fourteen : (j k : ℕ) → j < k → k ≤ 15 → j ≤ 14
   within_fourteen j k a b = omega (arith, a, b)
 
-  pub served_low : (number place : ℕ) (service : ServiceNo) → IsServed number place service → place ≤ 14
-  served_low number place service s =
-      within_fourteen place (length s.used.in_effect.services) (place_within s.used.in_effect.services place s.item s.there) (short number s.used)
-
   module _ (circuit : ℕ) (service : ServiceNo) (s : IsServiceAt t cs circuit service) where
     low : s.place ≤ 14
     low =

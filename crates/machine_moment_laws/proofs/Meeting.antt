@@ -207,6 +207,3 @@ module _ (Says : Name × Role → Name × Role → Key → Type 0) (r : ℕ) whe
 
     pub meets_cleared : (p : NodePair) (s : Session) → MeetsAt p s → MeetsAt p (without_breaks s)
     meets_cleared p s f = (calm_cleared size positive s f.0, record { near_held = f.1.near_held; far_held = f.1.far_held; near_flight = f.1.near_flight; far_flight = f.1.far_flight })
-
-    pub meets_whole : (p : NodePair) (s : Session) → MeetsAt p s → s.is_down ≡ false
-    meets_whole p s f = f.0.0.whole

@@ -205,20 +205,8 @@ octets_tell size to from n w e h =
     (session_acts (octets_arrived size n) (octets_nodes size n) (λ s. ((octets_touches size n s).view, (octets_touches size n s).sent)) to from w.sessions) h
 
 -- ---- a connection
-around_nodes : KeepsNodes (around opened)
-around_nodes s = ap (λ (p : NodePair). (p.1, p.0)) (opened_nodes (turned s))
-
 around_none : (s : Session) → NoBreak s → NoBreak (around opened s)
 around_none s n = turned_none (opened (turned s)) (opened_none (turned s) (turned_none s n))
-
-pub connect_unbroken : (a b : Name) (w : MachineState) → Each NoBreak w.sessions → Each NoBreak (connect a b w).sessions
-connect_unbroken a b w e =
-    let u : MachineState = pass a (change_session a b opened w) in
-    let first : Each NoBreak u.sessions = pass_unbroken a (change_session a b opened w) (session_unbroken opened opened_none a b w.sessions e) in
-    elim (is_broken u a b) as (λ c. Each NoBreak (cond c u (pass b (change_session a b (around opened) u))).sessions) [
-      | true ↦ first
-      | false ↦ pass_unbroken b (change_session a b (around opened) u) (session_unbroken (around opened) around_none a b u.sessions first)
-    ]
 
 pub connect_tell : (a b : Name) (w : MachineState) → Each NoBreak w.sessions → AllTell w → AllTell (connect a b w)
 connect_tell a b w e h =

@@ -17,7 +17,7 @@ use Rattle.net_machine.specs.declared.editing.Moved.{Moved}
 use Rattle.net_machine.specs.declared.editing.Moved.TheVariants.{Yes, No}
 use Rattle.net_machine.specs.declared.ends.SessionEnds.{SessionEnds}
 use Rattle.net_machine.specs.Moving.{CanMove, CanMoveIf, did_move}
-use Rattle.net_machine.specs.Seating.{Keeps, order_of}
+use Rattle.net_machine.specs.Seating.{Keeps}
 use Rattle.net_machine.specs.Tying.{OrdersAs, OrdersThen}
 use Rattle.net_machine.proofs.Found.{same_setup}
 
@@ -90,10 +90,4 @@ pub orders_as : (seats after : List Seat) (order then : List SessionEnds) (m : O
 orders_as seats after order then None moved is keeps h =
     (keeps refl, subst (λ b. OrdersThen b after order then) is h)
 orders_as seats after order then (Some m) moved is keeps h = subst (λ b. OrdersThen b after order then) is h
-
-pub orders_anew : (seats : List Seat) (found : Checked) (t : Topology) (order then : List SessionEnds)
-    → (seat seats 0).who ≡ Configuring found → t ≡ found.topology → then ≡ order_of seats t
-    → OrdersThen Yes seats order then
-orders_anew seats found t order then who t_is made = λ x at.
-    made ∙ ap (λ (u : Topology). order_of seats u)
     (t_is ∙ ap (λ (z : Checked). z.topology) (same_setup found x (sym who ∙ at)))

@@ -5,13 +5,12 @@ use Rattle.std.specs.declared.option.Option.TheVariants.{Some, None}
 use Rattle.std.specs.Option.{IfSome}
 use Rattle.std.proofs.Common.{refl, sym, ◌∙◌, ap, arith, subst, set}
 use Rattle.std.proofs.lemmas.List.{length-set, length-map}
-use Rattle.ov_link.specs.Breaks.{with_break}
 use Rattle.ov_link.specs.declared.step.Input.{Input}
 use Rattle.node_core.specs.Whole.{session_of}
 use Rattle.node_model.specs.Step.{nothing}
-use Rattle.running_nodes.specs.Seats.{Seat, breaks_at, far_of, is_down_at, live_at, name_of, others_of, seat}
+use Rattle.running_nodes.specs.Seats.{Seat, far_of, is_down_at, live_at, name_of, others_of, seat}
 use Rattle.running_nodes.specs.Stands.{IsLong}
-use Rattle.running_nodes.specs.Steps.{Takes, cleared, cleared_at, cleared_from, emptied, told_of_loss, unbroken, with_break_at}
+use Rattle.running_nodes.specs.Steps.{Takes, cleared, cleared_at, cleared_from, emptied, told_of_loss, unbroken}
 use Rattle.running_nodes.specs.Steps.{with_link, with_notice, with_seat}
 use Rattle.running_nodes.specs.declared.place.SessionPlace.{SessionPlace}
 use Rattle.net_machine.specs.Connections.{Opens}
@@ -45,21 +44,6 @@ notice_keeps seats p waits long within =
       links = is.links;
       breaks = is.breaks;
       notices = length-set n.notices p.session waits ∙ is.notices;
-    })
-
-pub break_keeps : (seats : List Seat) (p : SessionPlace) (m : ℕ) → AreLong seats → p.node < length seats
-    → Keeps seats (with_break_at p m seats)
-break_keeps seats p m long within =
-    let n = seat seats p.node in
-    let is = long p.node within in
-    with_keeps seats p.node (record n { breaks = set n.breaks p.session (with_break m (breaks_at seats p)) }) within long
-    refl refl refl
-    (record {
-      posts = is.posts;
-      kept = is.kept;
-      links = is.links;
-      breaks = length-set n.breaks p.session (with_break m (breaks_at seats p)) ∙ is.breaks;
-      notices = is.notices;
     })
 
 pub emptied_keeps : (seats : List Seat) (k : ℕ) → AreLong seats → k < length seats

@@ -6,19 +6,17 @@ use Rattle.std.specs.List.{All, cons_option}
 use Rattle.std.specs.Option.{option_map}
 use Rattle.std.proofs.Common.{refl, sym, ◌∙◌, ap, subst, arith, inl, inr, get_or}
 use Rattle.std.proofs.lemmas.Bool.{cases_eq}
-use Rattle.std.proofs.lemmas.List.{length-set, get_or-set_same, get_or-set_other, set-set}
+use Rattle.std.proofs.lemmas.List.{length-set, get_or-set_same, get_or-set_other}
 use Rattle.ov_types.specs.First.{same_name}
-use Rattle.config_types.specs.declared.topology.Topology.{Topology}
 use Rattle.running_nodes.specs.MachineModel.Setup.{Name}
 use Rattle.running_nodes.specs.MachineModel.Session.{Session}
-use Rattle.running_nodes.specs.MachineModel.Network.{asked}
 use Rattle.running_nodes.specs.Seats.{Seat, far_of, index_from, is_name, name_of, nobody, other, others_of, place_at, place_of, seat}
 use Rattle.running_nodes.specs.Seats.{seat_named}
 use Rattle.running_nodes.specs.Stands.{IsLong}
 use Rattle.running_nodes.specs.Steps.{with_seat}
 use Rattle.running_nodes.specs.declared.place.SessionPlace.{SessionPlace}
 use Rattle.net_machine.specs.declared.ends.SessionEnds.{SessionEnds}
-use Rattle.net_machine.specs.Seating.{AreLong, AreSeated, HasOther, IsSeated, Keeps, ends_at, ends_from, ends_of, order_among, order_of}
+use Rattle.net_machine.specs.Seating.{AreLong, AreSeated, HasOther, IsSeated, Keeps, ends_at, ends_from, ends_of, order_among}
 
 -- ---- one seat is changed
 pub with_here : (seats : List Seat) (k : ℕ) (n : Seat) → k < length seats → seat (with_seat k n seats) k ≡ n
@@ -26,9 +24,6 @@ with_here seats k n h = get_or-set_same seats k n nobody h
 
 pub with_there : (seats : List Seat) (k j : ℕ) (n : Seat) → j ≢ k → seat (with_seat k n seats) j ≡ seat seats j
 with_there seats k j n h = get_or-set_other seats k j n nobody h
-
-pub with_twice : (seats : List Seat) (k : ℕ) (n m : Seat) → with_seat k m (with_seat k n seats) ≡ with_seat k m seats
-with_twice seats k n m = set-set seats k n m
 
 pub with_count : (seats : List Seat) (k : ℕ) (n : Seat) → length (with_seat k n seats) ≡ length seats
 with_count seats k n = length-set seats k n
@@ -144,6 +139,3 @@ pub among_kept : (seats after : List Seat) (ss : List Session) → Keeps seats a
 among_kept seats after [] h = refl
 among_kept seats after (s ∷ ss) h =
     (λ i. cons_option (ends_of_kept seats after s.near.name s.far.name h i) (among_kept seats after ss h i))
-
-pub order_kept : (seats after : List Seat) (t : Topology) → Keeps seats after → order_of after t ≡ order_of seats t
-order_kept seats after t h = among_kept seats after (asked t) h

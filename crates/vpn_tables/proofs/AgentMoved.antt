@@ -34,8 +34,8 @@ use Rattle.vpn_holdings.specs.Listing.{told_in}
 use Rattle.vpn_holdings.specs.Moved.{place_by, target_at, targets_by_publication, told_on}
 use Rattle.vpn_holdings.specs.Touched.{imports_one, is_touched, rows_at_use, rows_by_key, touched_rows}
 use Rattle.vpn_holdings.proofs.AgentsIndexed.{found_by_session, none_there, told_first}
-use Rattle.control_change_laws.proofs.Led.{importing}
-use Rattle.control_change_laws.proofs.Wanted.{at_row}
+use Rattle.vpn_tables.proofs.Led.{importing}
+use Rattle.vpn_tables.proofs.Wanted.{at_row}
 use Rattle.vpn_tables.specs.Changing.{rows_by_agent}
 use Rattle.vpn_tables.specs.Stored.{entry_of}
 use Rattle.vpn_tables.specs.declared.stored.RowKey.{RowKey}
@@ -100,7 +100,7 @@ module _ (h : Holdings) (session : ℕ) (address : Addr) where
             ] refl
       ]
 
-  -- of an agent that is named so, whose map is that of one of the session, or is empty
+  -- an agent that is named so was there, or has the map of one of the session, or an empty one
   named_back : (a : Told) (ts : List Told) → Member a (named ts session address) → Member a ts ⊎ (((b : Told) × Member b ts × ((b.session ≡ session) × (b.map ≡ a.map))) ⊎ (a.map ≡ empty))
   named_back a [] m = elim m as (λ _. Member a [] ⊎ (((b : Told) × Member b [] × ((b.session ≡ session) × (b.map ≡ a.map))) ⊎ (a.map ≡ empty))) [
     | inl e ↦ inr (inr (ap (λ (x : Told). x.map) (sym e)))

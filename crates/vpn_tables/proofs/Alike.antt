@@ -23,10 +23,10 @@ use Rattle.node_model.proofs.Unknown.{le_trans, place_at, place_at-within, targe
 use Rattle.vpn_holdings.specs.Answers.{distance, is_up_at, is_up_on, seen_from, side_at}
 use Rattle.vpn_holdings.specs.Listing.{hops}
 use Rattle.vpn_holdings.specs.Touched.{imports_one, is_touched, rows_at_use}
-use Rattle.control_change_laws.proofs.Filtering.{false_from}
-use Rattle.control_change_laws.proofs.Known.{in_places}
-use Rattle.control_change_laws.proofs.Untouched.{circuit_place}
-use Rattle.control_change_laws.proofs.Wanted.{at_row}
+use Rattle.vpn_tables.proofs.Filtering.{false_from}
+use Rattle.vpn_tables.proofs.Known.{in_places}
+use Rattle.vpn_tables.proofs.Untouched.{circuit_place}
+use Rattle.vpn_tables.proofs.Wanted.{at_row}
 use Rattle.vpn_tables.specs.Stored.{entry_of}
 use Rattle.vpn_tables.specs.declared.stored.RowKey.{RowKey}
 use Rattle.vpn_tables.proofs.Less.{more_both, more_left}

@@ -1,5 +1,5 @@
 -- The routes that lead on into a place that is not touched stay.
-use Rattle.std.specs.Prelude.{◌≡◌, ℕ, zero, suc, ◌≤◌, List, [], ◌∷◌, ◌++◌, map, Bool, true, false, cond, nat_le}
+use Rattle.std.specs.Prelude.{◌≡◌, ℕ, zero, suc, ◌≤◌, List, [], map, Bool, true, false, cond, nat_le}
 use Rattle.std.specs.declared.option.Option.{Option}
 use Rattle.std.specs.declared.option.Option.TheVariants.{Some, None}
 use Rattle.std.specs.List.{filter, flat_map, list_any}
@@ -20,9 +20,9 @@ use Rattle.node_model.proofs.Objects.{in_sides}
 use Rattle.vpn_holdings.specs.Answers.{distance, side_at}
 use Rattle.vpn_holdings.specs.At.{led_at, led_from, led_on_side}
 use Rattle.vpn_holdings.specs.Touched.{imports_one, is_touched, rows_at_use, touched_rows}
-use Rattle.control_change_laws.proofs.Moves.{Covers, Moves, told_otherwise}
-use Rattle.control_change_laws.proofs.Untouched.{published_same, up_same}
-use Rattle.control_change_laws.proofs.Wanted.{at_row}
+use Rattle.vpn_tables.proofs.Moves.{Covers, Moves, told_otherwise}
+use Rattle.vpn_tables.proofs.Untouched.{published_same, up_same}
+use Rattle.vpn_tables.proofs.Wanted.{at_row}
 use Rattle.vpn_tables.proofs.UpStays.{at_use, no_farther, side_parts, within_from}
 
 module _ (h : Holdings) (peers : List Map) (agents : List Told) (moved : List Path) (place : Option InstanceId) (m : Moves moved place h (told_otherwise h peers agents)) (targets : List Target) (covers : Covers h.asn moved place targets) (short : AreShort h.feed) where

@@ -1,8 +1,27 @@
 -- Lemmas, in the order in which they stand on each other.
+pub mod Moves
+pub mod Filtering
+pub mod Rows
+pub mod RowsCounted
+pub mod Known
+pub mod Untouched
+pub mod Led
+pub mod Wanted
+pub mod OneKey
+pub mod RouteMoves
+pub mod PublicationMoves
+pub mod TouchedByChanges
+pub mod Covering
+pub mod TablesStay
+pub mod Importing
+pub mod Kept
+pub mod Ports
+pub mod Slices
+pub mod AgentRows
 mod Order
 mod Keeping
 mod UpStays
-mod Touching
+mod EntriesStay
 mod LedStays
 mod MovedRows
 pub mod Differing

@@ -1,5 +1,5 @@
 -- What follows of an instance and a prefix is one thing, and stays where a change does not touch it.
-use Rattle.std.specs.Prelude.{◌≡◌, ◌≢◌, ◌⊎◌, ◌==◌, ◌&&◌, not, IfOk, IfSome, OnErr, ℕ, zero, suc, List, [], ◌∷◌, map, Bool, true, false, cond, nat_le}
+use Rattle.std.specs.Prelude.{◌≡◌, ◌≢◌, ◌⊎◌, ◌==◌, ◌&&◌, not, IfOk, IfSome, OnErr, ℕ, zero, suc, List, [], map, Bool, true, false, cond, nat_le}
 use Rattle.std.specs.declared.option.Option.{Option}
 use Rattle.std.specs.declared.option.Option.TheVariants.{Some, None}
 use Rattle.std.specs.declared.result.Result.{Result}
@@ -34,9 +34,9 @@ use Rattle.vpn_holdings.specs.Moved.{moved_by_publication, moved_by_route, place
 use Rattle.vpn_holdings.specs.Touched.{rows_by_key, touched_rows}
 use Rattle.vpn_holdings.specs.contracts.routes.RoutePartialEq.TheImpl as route_eq
 use Rattle.vpn_holdings.specs.declared.routes.Route.{Route}
-use Rattle.control_change_laws.proofs.Filtering.{all_from}
-use Rattle.control_change_laws.proofs.Touching.{covers_publication, no_rows, publication_moves, route_moves, subscription_targets}
-use Rattle.control_change_laws.proofs.Wanted.{at_row}
+use Rattle.vpn_tables.proofs.Filtering.{all_from}
+use Rattle.vpn_tables.proofs.TouchedByChanges.{covers_all, covers_publication, no_rows, publication_moves, route_moves, subscription_targets}
+use Rattle.vpn_tables.proofs.Wanted.{at_row}
 use Rattle.vpn_tables.specs.Followed.{AreOther, HasMoved, IsFollowed, IsListed, IsRowChange, first_route, followed_again, followed_at, led_by, unchanged_at}
 use Rattle.vpn_tables.specs.Stored.{is_row, key_at}
 use Rattle.vpn_tables.specs.contracts.changes.FollowedPartialEq.TheImpl as followed_eq
@@ -47,7 +47,7 @@ use Rattle.vpn_tables.specs.declared.stored.RowKey.{RowKey}
 use Rattle.vpn_tables.proofs.Keeping.{not_listed}
 use Rattle.vpn_tables.proofs.LedStays.{led_stays}
 use Rattle.vpn_tables.proofs.Order.{row_is}
-use Rattle.vpn_tables.proofs.Touching.{covers_all, publication_entry, route_entry}
+use Rattle.vpn_tables.proofs.EntriesStay.{publication_entry, route_entry}
 
 -- ---- one thing follows
 route_back : (r : Option Route) → first_route (led_by r) ≡ r
@@ -60,7 +60,7 @@ is_followed h i q f is =
     let left : f.led_left ≡ first_route (led_at h i q false) = sym (route_back f.led_left) ∙ ap first_route is.led_left in
     λ n. record { path = is.path n; led_right = right n; led_left = left n }
 
--- ---- and it is there: a route that leads on is one with one target
+-- ---- what follows is there: a route that leads on is one with one target
 abbrev IsOne : List Path → Type 0
 IsOne ps = led_by (first_route ps) ≡ ps
 
@@ -89,7 +89,7 @@ one_led h i q b = one_where (is_hop i) (led_on_side h (place_of i) q (side_at h.
 pub followed_is : (h : Holdings) (i : InstanceId) (q : Block) → IsFollowed h i q (followed_at h i q)
 followed_is h i q = record { path = refl; led_right = one_led h i q true; led_left = one_led h i q false }
 
--- ---- it stays where a change does not touch it
+-- ---- what follows stays where a change does not touch it
 followed_same : (h g : Holdings) (i : InstanceId) (q : Block) → selected_at h i q ≡ selected_at g i q → ((b : Bool) → led_at h i q b ≡ led_at g i q b) → followed_at h i q ≡ followed_at g i q
 followed_same h g i q path led = λ n. record { path = path n; led_right = first_route (led true n); led_left = first_route (led false n) }
 
@@ -118,7 +118,7 @@ publication_followed h session d short (Up.Subscribe j) e i q clean =
     publication_led h session d short q i q b (λ m.
     subst (Member (at_row i q)) (ap (λ ts. touched_rows h ts q) (subscription_targets h session d j e) ∙ no_rows h q) m))
 
--- ---- of rows among which all that moved are, those are kept at which something else follows
+-- ---- the rows that are kept of some among which all that moved are: those at which something else follows
 module _ (h g : Holdings) (rows : List (InstanceId × Block)) (kept : List RowChange) (other : AreOther (map (followed_again g) (map (unchanged_at h) rows)) kept) where
   abbrev told : InstanceId × Block → RowChange
   told e = followed_again g (unchanged_at h e)
@@ -284,7 +284,7 @@ kept_other all kept e = record {
   every = λ c m differ. subst (Member c) (sym e) (in_filter is_other c all m (other_from c differ));
 }
 
--- of each two things it is known whether they are one
+-- two things are one or are not
 cases : {X : Type 0} (same : X → X → Bool) → ((a b : X) → same a b ≡ true → a ≡ b) → ((a : X) → same a a ≡ true) → (a b : X) → (a ≡ b) ⊎ (a ≢ b)
 cases same is own a b =
     elim (same a b) as (λ t. same a b ≡ t → (a ≡ b) ⊎ (a ≢ b)) [

@@ -29,8 +29,8 @@ use Rattle.node_model.proofs.Unknown.{le_trans, place_at, place_at-within}
 use Rattle.vpn_holdings.specs.Changes.{with_low}
 use Rattle.vpn_holdings.specs.Gathered.{held_keys, keys_told, up_key}
 use Rattle.vpn_holdings.specs.Touched.{imports_one, is_touched, touched_rows}
-use Rattle.control_change_laws.proofs.Objects.{object_stays}
-use Rattle.control_change_laws.proofs.Wanted.{at_row}
+use Rattle.vpn_tables.proofs.TablesStay.{object_stays}
+use Rattle.vpn_tables.proofs.Wanted.{at_row}
 use Rattle.vpn_tables.specs.Changing.{is_of, makes_rows, rows_published}
 use Rattle.vpn_tables.specs.Stored.{entry_of}
 use Rattle.vpn_tables.specs.declared.stored.RowKey.{RowKey}
@@ -67,7 +67,7 @@ pub record Moves (k : LowKey) (agents : List Told) (j : InstanceId) (q : Block) 
 abbrev None_moves : InstanceId → Block → Type 0
 None_moves j q = ⊥
 
--- of two holdings that differ by this object alone
+-- what moves between two holdings that differ by one object alone
 module _ (h g : Holdings) (k : LowKey) (asn : g.asn ≡ h.asn) (peers : g.peers ≡ h.peers) (agents : g.agents ≡ h.agents) (stays : (j : LowKey) → k ≢ j → object h.feed j ≡ object g.feed j) (short : AreShort h.feed) where
   use_stays : (i : InstanceId) → is_hop i ≡ true → is_of k i ≡ false → held_use h.feed i ≡ held_use g.feed i
   use_stays i is none = ap (use_from (use_of i)) (stays (key.ChainUse (use_of i)) (use_apart k i is none))
@@ -184,7 +184,7 @@ module _ (h : Holdings) (d : Delta LowKey LowValue) (short_h : AreShort h.feed) 
       let c = clean r.instance r.prefix other none in
       alike h later (is_of k) (Moves k h.agents) there back short_h short_g r c (clean_too h later (is_of k) (Moves k h.agents) there back r.instance r.prefix c)
 
-  -- of an instance that stays known
+  -- entries stay outside an instance that stays known
   pub known_entry : ((i : InstanceId) → is_of k i ≡ true → is_known h.feed i ≡ is_known later.feed i) → (r : RowKey) → is_of k r.instance ≡ false → entry_of h r ≡ entry_of later r
   known_entry known r other =
       let there : IsMoved h later (is_of k) None_moves = moved_known h later k refl refl refl (object_stays h.feed d) short_h known in
@@ -192,7 +192,7 @@ module _ (h : Holdings) (d : Delta LowKey LowValue) (short_h : AreShort h.feed) 
       let c : IsClean h (is_of k) None_moves r.instance r.prefix = record { other = other; row = λ j m. absurd m; of_use = λ s held row j x m. absurd m } in
       alike h later (is_of k) None_moves there back short_h short_g r c (clean_too h later (is_of k) None_moves there back r.instance r.prefix c)
 
-  -- of an attachment or an access list
+  -- entries stay where an attachment or an access list changes
   none_of : (j : LowKey) (i : InstanceId) → makes_rows j ≡ false → is_of j i ≡ false
   none_of (key.Instance n) i e = absurd (true≢false e)
   none_of (key.ChainUse n) i e = absurd (true≢false e)

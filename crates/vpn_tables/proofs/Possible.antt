@@ -36,7 +36,7 @@ use Rattle.vpn_holdings.specs.Answers.{distance, is_up_at, is_up_on, seen_from, 
 use Rattle.vpn_holdings.specs.At.{selected_at}
 use Rattle.vpn_holdings.specs.Changes.{with_low}
 use Rattle.vpn_holdings.specs.Gathered.{UsesAreInRange, held_keys, prefix_in, prefixes_in, prefixes_told}
-use Rattle.control_change_laws.proofs.Wanted.{at_row}
+use Rattle.vpn_tables.proofs.Wanted.{at_row}
 use Rattle.vpn_tables.specs.Changing.{instances_of, is_of, own_rows, rows_by_object, rows_published, stays_known, subnets_by, subnets_of}
 use Rattle.vpn_tables.specs.Stored.{entry_of, nothing_stored}
 use Rattle.vpn_tables.specs.declared.stored.RowKey.{RowKey}
@@ -217,7 +217,7 @@ known_still h (key.ChainUse n) v stays i own = absurd (true≢false (sym stays))
 known_still h (key.Attach n) v stays i own = absurd (true≢false (sym stays))
 known_still h (key.Acl m n) v stays i own = absurd (true≢false (sym stays))
 
--- of an instance that is not known nothing follows
+-- nothing follows of an instance that is not known
 nothing_unknown : (h : Holdings) (r : RowKey) → AreShort h.feed → is_known h.feed r.instance ≡ false → nothing_stored ≡ entry_of h r
 nothing_unknown h r short unknown = λ n. record {
   path = sym (no_path (get (table h r.instance) r.prefix) refl) n;

@@ -36,7 +36,7 @@ nothing_plain (Some p) e = absurd (none_some (plain p) (sym e))
 pub none_stays : (h g : Holdings) (i : InstanceId) (q : Block) → Beside h g i q → selected_at h i q ≡ None → selected_at g i q ≡ None
 none_stays h g i q beside none = ap (option_map plain) (none_found h g i q beside (nothing_plain (get (table h i) q) none) (get (table g i) q) refl)
 
--- the same paths, in whatever order
+-- each path of g to the prefix is one of h
 abbrev pub Within : Holdings → Holdings → InstanceId → Block → Type 0
 Within h g i q = (p : Path) → Member p (paths_of g i) → p.prefix ≡ q → Member p (paths_of h i)
 

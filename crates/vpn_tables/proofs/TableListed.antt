@@ -53,7 +53,7 @@ listed i es = filter_map (row_in i) es
 same_instance : (i : InstanceId) (k : RowKey) → (k.instance.0 == i.0) ≡ true → k.instance ≡ i
 same_instance i k e = λ n. record { 0 = eqb-true k.instance.0 i.0 e n }
 
--- of one instance the keys go by prefix
+-- the keys of one instance go by prefix
 by_prefix : (i j : InstanceId) (p q : Block) → i ≡ j → row_order (at_key i p) (at_key j q) ≡ block_cmp p q
 by_prefix i j p q e =
     sym (row_same (at_key i p) (at_key j q))
@@ -174,7 +174,7 @@ table_listed h i stored are ordered =
     ∙ sym (get-from_entries prefix_total right q ∙ found_shown q (entries (table h i)))))
     ∙ entries-map_of block_cmp prefix_total right (ascends_shown (entries (table h i)) (ascends_map (table h i)))
 
--- ---- of what is looked at
+-- ---- the entries that are looked at
 pub kept_rows : (i : InstanceId) (r : Kept → Bool) (es : List Kept) → ((e : Kept) → is_of i e ≡ true → r e ≡ true) → listed i (filter r es) ≡ listed i es
 kept_rows i r [] f = refl
 kept_rows i r (e ∷ es) f =

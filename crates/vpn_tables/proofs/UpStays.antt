@@ -23,10 +23,10 @@ use Rattle.node_model.proofs.Places.{use_found}
 use Rattle.vpn_holdings.specs.Answers.{distance, is_up_at, is_up_on, seen_from, side_at}
 use Rattle.vpn_holdings.specs.Listing.{hops}
 use Rattle.vpn_holdings.specs.Touched.{imports_one, is_touched, rows_at_use, touched_rows}
-use Rattle.control_change_laws.proofs.Known.{in_places}
-use Rattle.control_change_laws.proofs.Moves.{Covers, Moves, told_otherwise}
-use Rattle.control_change_laws.proofs.Untouched.{up_same}
-use Rattle.control_change_laws.proofs.Wanted.{at_row}
+use Rattle.vpn_tables.proofs.Known.{in_places}
+use Rattle.vpn_tables.proofs.Moves.{Covers, Moves, told_otherwise}
+use Rattle.vpn_tables.proofs.Untouched.{up_same}
+use Rattle.vpn_tables.proofs.Wanted.{at_row}
 
 -- the use of a side that is held
 pub side_parts : (feed : Map) (n : ℕ) (b : Bool) (s : Side) → side_at feed n b ≡ Some s → (Member s.chain (uses feed)) × ((s.chain.number ≡ n) × (s.is_right ≡ b))

@@ -21,7 +21,7 @@ use Rattle.vpn_holdings.specs.Listing.{told_in}
 use Rattle.vpn_holdings.specs.Moved.{targets_by_publication}
 use Rattle.vpn_holdings.specs.Touched.{rows_by_key, touched_rows}
 
--- those of each publication of the agent of a session
+-- the rows that the publications of the agent of a session touch
 abbrev pub rows_by_agent : Holdings → ℕ → List (InstanceId × Block)
 rows_by_agent h session =
     flat_map (λ k. rows_by_key h (targets_by_publication h session (Drop k)) k) (keys_told (told_in h.agents session))
@@ -38,7 +38,7 @@ is_of (key.Instance n) i = if is_hop i then false else i.0 == n
 is_of (key.ChainUse u) i = if is_hop i then use_of i == u else false
 is_of _ i = false
 
--- rows follow from it: from an attachment and an access list none do
+-- rows follow from the object of a key: from an attachment and an access list none do
 abbrev pub makes_rows : LowKey → Bool
 makes_rows (key.Instance n) = true
 makes_rows (key.ChainUse u) = true
@@ -57,7 +57,7 @@ subnets_of k (Some v) = subnets_by (as_use k v)
 abbrev pub own_rows : Holdings → LowKey → List Block → List (InstanceId × Block)
 own_rows h k subnets = flat_map (λ i. map (λ p. (i, p)) (prefixes_told h ++ subnets)) (instances_of k)
 
--- those that publications in instances of the object touch
+-- the rows that what an agent told touches, where it is a publication in an instance of the object
 abbrev pub rows_published : Holdings → LowKey → UpKey → List (InstanceId × Block)
 rows_published h k (Up.Publish i prefix) = if is_of k i then touched_rows h (target_of h.asn i ∷ []) prefix else []
 rows_published h k (Up.Subscribe i) = []

@@ -20,7 +20,7 @@ use Rattle.vpn_tables.specs.declared.changes.RowChange.{RowChange}
 abbrev pub led_by : Option Route → List Path
 led_by r = cons_option (option_map path_of r) []
 
--- the one from an end, and its key towards peers
+-- the route that leads on from an end, and the key of a route towards peers
 abbrev pub led_of : Bool → Followed → Option Route
 led_of true f = f.led_right
 led_of false f = f.led_left
@@ -57,7 +57,7 @@ pub record IsListed (cs : List RowChange) (i : InstanceId) (q : Block) : Type 0 
   pub instance : change.instance ≡ i
   pub prefix : change.prefix ≡ q
 
--- ---- the same by what is computed of it
+-- ---- what follows, computed
 -- a path with one target, as a route that leads on
 abbrev pub route_to : Path → List Target → Option Route
 route_to p [] = None
@@ -86,7 +86,7 @@ unchanged_at h e = record { instance = e.0; prefix = e.1; before = followed_at h
 abbrev pub followed_again : Holdings → RowChange → RowChange
 followed_again h c = record { instance = c.instance; prefix = c.prefix; before = c.before; after = followed_at h c.instance c.prefix }
 
--- of some row changes those after which something else follows
+-- what is kept of some row changes: those after which something else follows
 pub record AreOther (all kept : List RowChange) : Type 0 where
   pub each : (c : RowChange) → Member c kept → Member c all × (c.before ≢ c.after)
   pub every : (c : RowChange) → Member c all → c.before ≢ c.after → Member c kept

@@ -1,4 +1,7 @@
 -- The files of definitions, in the order in which they stand on each other.
+pub mod PeerKeys
+pub mod Importing
+pub mod Here
 pub mod Stored
 pub mod Listed
 pub mod Changing

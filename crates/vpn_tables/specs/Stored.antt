@@ -20,7 +20,7 @@ row_order = row_keys.ghosts.cmp
 abbrev pub is_row : RowKey → RowKey → Bool
 is_row k key = is_at (row_order key) k
 
--- ---- by the definitions: the selected path, and whether the prefix is a subnet of an end that is up there
+-- ---- what follows by the definitions: the selected path, and whether the prefix is a subnet of an end that is up
 abbrev pub entry_of : Holdings → RowKey → Entry
 entry_of h k = record {
   path = selected_at h k.instance k.prefix;
@@ -28,7 +28,7 @@ entry_of h k = record {
   is_up_left = is_up_at h k.instance k.prefix false;
 }
 
--- ---- what is stored. Where there is no place for it, that is nothing
+-- ---- what is stored: nothing where there is no place
 abbrev pub nothing_stored : Entry
 nothing_stored = record { path = None; is_up_right = false; is_up_left = false }
 

@@ -1,5 +1,5 @@
 //! Whose session it is changes, with the rows of what its agent told. Where memory is wanting, nothing changes.
-ghost use Rattle.std.specs.Prelude.{◌≡◌, ◌<◌, ◌++◌, map, IfOk, OnErr, OnOk};
+ghost use Rattle.std.specs.Prelude.{◌≡◌, ◌<◌, map, IfOk, OnErr, OnOk};
 ghost use Rattle.vpn_holdings.specs.Changes.{with_agent};
 ghost use Rattle.vpn_tables.specs.Changing.{rows_by_agent};
 ghost use Rattle.vpn_tables.specs.Stored.{AreStored, key_at};

@@ -94,7 +94,7 @@ impl VpnTables {
     }
 }
 
-/// What follows of it.
+/// What follows of what is held.
 impl VpnTables {
     /// The row of an instance for a prefix, where it has one: what `table` has there. It is looked up.
     pub fn row(&self, i: InstanceId, prefix: &Prefix) -> Result<Option<TableRow>, NoMemory>

@@ -26,7 +26,7 @@ pub struct Followed {
     pub path: Option<Path>,
     /// The route that leads the prefix on into the instance, a place of a use, from the right end.
     pub led_right: Option<Route>,
-    /// The route that does so from the left end.
+    /// The route that leads the prefix on into the instance from the left end.
     pub led_left: Option<Route>,
 }
 
@@ -122,7 +122,8 @@ impl VpnTables {
         list_unchanged(self.alloc, self, touched.as_slice())
     }
 
-    /// Those of some rows at which something else follows now, where there was memory for the rows. It takes none.
+    /// Which of some rows are those at which something else follows now, where there was memory for the rows. It takes
+    /// none.
     fn changed_of(&self, listed: Result<Vec<RowChange>, NoMemory>) -> Option<Vec<RowChange>>
         ensures other { IfOk listed (λ all. IfSome result (λ kept.
             AreOther (map (followed_again self.now) all.items) kept.items)) }

@@ -51,7 +51,7 @@ fn follow<L: Ledger>(held: &VpnHoldings, key: RowKey, steps: &mut Steps<L>) -> E
     }
 }
 
-/// The same, uncounted and by a walk that takes no memory.
+/// What follows at a key, by a walk that counts no step and takes no memory.
 pub(crate) fn follows(held: &VpnHoldings, key: RowKey) -> Entry
     ensures { result ≡ entry_of held.now key }
 {

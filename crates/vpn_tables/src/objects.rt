@@ -38,7 +38,7 @@ fn instances_of(alloc: Global, of: &LowKey) -> Result<Vec<InstanceId>, NoMemory>
     }
 }
 
-/// Those of a use.
+/// The instances of the use of a number: as many places as a use may have, and none above the numbers of uses.
 fn places_of(alloc: Global, number: u16) -> Result<Vec<InstanceId>, NoMemory>
     ensures { IfOk result (λ instances. instances.items ≡ instances_of (key.ChainUse number)) }
 {
@@ -145,7 +145,7 @@ fn push_published(
     Ok(())
 }
 
-/// Appends those that the publications in instances of an object touch.
+/// Appends the rows that the publications in instances of an object touch.
 fn push_all_published(rows: &mut Vec<Row>, held: &VpnHoldings, of: &LowKey) -> Result<(), NoMemory>
     ensures { OnOk result (rows.new.items ≡ rows.old.items
         ++ flat_map (rows_published held.now of.now) (held_keys held.now)) }

@@ -26,7 +26,8 @@ pub(crate) fn row_key(instance: InstanceId, prefix: &Prefix) -> RowKey
     }
 }
 
-/// What follows there: the selected path, and whether the prefix is a subnet of an end of the instance's use that is up.
+/// What follows of an instance and a prefix: the selected path, and whether the prefix is a subnet of an end of the
+/// instance's use that is up.
 #[derive(Clone, Copy, PartialEq, Eq)]
 pub(crate) struct Entry {
     pub(crate) path: Option<Path>,

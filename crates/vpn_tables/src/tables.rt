@@ -31,7 +31,7 @@ pub struct VpnTables {
 }
 
 impl Model for VpnTables {
-    ghost use Rattle.vpn_holdings.specs.NodeModel.Paths.{Holdings};
+    ghost use Rattle.node_model.specs.Paths.{Holdings};
     ghost use Rattle.vpn_holdings.specs.Codes.{coded_holdings};
     ghost use Rattle.vpn_tables.specs.Stored.{AreStored};
 

@@ -4,7 +4,7 @@ use Rattle.std.specs.declared.option.Option.{Option}
 use Rattle.ov_types.specs.declared.keys.DownKey.{DownKey}
 use Rattle.ov_types.specs.declared.keys.DownValue.{DownValue}
 use Rattle.control_wants.specs.NodeCore.Told.{down_of}
-use Rattle.control_wants.specs.ControlChangeLaws.Here.{wanted_on}
+use Rattle.vpn_tables.specs.Here.{wanted_on}
 use Rattle.control_wants.specs.Wanted.{AreItems}
 use Rattle.control_wants.proofs.Sending.{items_agree}
 use Rattle.control_wants.proofs.agents.tell_marked.Goals as goal

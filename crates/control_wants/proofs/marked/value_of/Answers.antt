@@ -1,7 +1,7 @@
 use Rattle.std.proofs.Common.{◌∙◌, ap, sym}
 use Rattle.std.specs.FinMap.{get}
 use Rattle.vpn_tables.specs.NodeModel.Keys.{of_down}
-use Rattle.control_wants.specs.ControlChangeLaws.Here.{wanted_on}
+use Rattle.vpn_tables.specs.Here.{wanted_on}
 use Rattle.control_wants.specs.Marked.{key_in}
 use Rattle.control_wants.specs.declared.marked.ItemKey.{ItemKey}
 use Rattle.control_wants.proofs.RowsMarked.{row_told}

@@ -1,7 +1,7 @@
 use Rattle.std.proofs.Common.{sym, subst}
 use Rattle.std.specs.declared.option.Option.{Option}
 use Rattle.ov_types.specs.declared.objects.LowValue.{LowValue}
-use Rattle.control_change_laws.specs.Here.{IsListOfPort}
+use Rattle.vpn_tables.specs.Here.{IsListOfPort}
 use Rattle.control_wants.proofs.objects.mark_held.Goals as goal
 
 pub returns-in-Some-clause-marked : goal.returns-in-Some-clause-marked

@@ -2,7 +2,7 @@ use Rattle.std.proofs.Common.{◌≡◌, ℕ, true, is_some, subst, sym, ◌∙�
 use Rattle.std.specs.FinMap.{get}
 use Rattle.ov_types.specs.declared.objects.LowKey.TheVariants as key
 use Rattle.vpn_tables.specs.NodeModel.Keys.{Row, Subscribe}
-use Rattle.control_change_laws.specs.Here.{IsRowOf}
+use Rattle.vpn_tables.specs.Here.{IsRowOf}
 use Rattle.control_wants.specs.Marks.{IsCleanItem}
 use Rattle.control_wants.proofs.objects.mark_own_table.Goals as goal
 

@@ -3,7 +3,7 @@ use Rattle.std.proofs.Common.{◌≢◌, refl, inl, inr}
 use Rattle.vpn_tables.specs.Followed.{key_led}
 use Rattle.vpn_tables.proofs.NodeModel.Orders.{same_prefix-from}
 use Rattle.control_wants.specs.Marks.{IsEither, IsKey, no_item}
-use Rattle.control_wants.proofs.Growing.{within_itself, within_then}
+use Rattle.control_wants.proofs.Growing.{within_then}
 use Rattle.control_wants.proofs.Only.{itself, no_other, only_itself, only_more, only_then}
 use Rattle.control_wants.proofs.Telling.{both_marked}
 use Rattle.control_wants.proofs.told.mark_led_change.Goals as goal

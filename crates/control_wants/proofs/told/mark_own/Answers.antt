@@ -1,7 +1,7 @@
 use Rattle.std.proofs.Common.{◌≡◌, subst, sym, ◌∙◌}
 use Rattle.ov_types.specs.declared.keys.UpKey.TheVariants as Up
 use Rattle.ov_types.specs.declared.numbers.InstanceId.{InstanceId}
-use Rattle.control_change_laws.specs.Here.{IsRowOf}
+use Rattle.vpn_tables.specs.Here.{IsRowOf}
 use Rattle.control_wants.proofs.told.mark_own.Goals as goal
 
 same_instance : (i j : InstanceId) → Up.Subscribe i ≡ Up.Subscribe j → i ≡ j

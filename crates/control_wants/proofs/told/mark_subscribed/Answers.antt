@@ -1,7 +1,7 @@
 use Rattle.std.proofs.Common.{◌≡◌, ◌==◌, ℕ, true, ap, arith, subst, ◌∙◌}
 use Rattle.ov_types.specs.declared.prefix.Addr.{Addr}
 use Rattle.vpn_tables.specs.NodeModel.Keys.{Key}
-use Rattle.control_change_laws.specs.Here.{IsRowOf}
+use Rattle.vpn_tables.specs.Here.{IsRowOf}
 use Rattle.control_wants.specs.Marks.{IsCleanItem}
 use Rattle.control_wants.proofs.told.mark_subscribed.Goals as goal
 

@@ -4,7 +4,7 @@ use Rattle.vpn_holdings.specs.Moved.{targets_by_publication}
 use Rattle.vpn_holdings.specs.Touched.{rows_by_key, touched}
 use Rattle.vpn_tables.specs.Stored.{entry_of, key_at}
 use Rattle.vpn_tables.proofs.Keeping.{few_steps, not_listed}
-use Rattle.vpn_tables.proofs.Touching.{few_rows, publication_entry}
+use Rattle.vpn_tables.proofs.EntriesStay.{few_rows, publication_entry}
 use Rattle.vpn_tables.proofs.counted.change_publication.Goals as goal
 
 pub returns-in-Ok-clause-stored : goal.returns-in-Ok-clause-stored

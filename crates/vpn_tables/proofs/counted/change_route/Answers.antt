@@ -4,7 +4,7 @@ use Rattle.vpn_holdings.specs.Moved.{targets_by_route}
 use Rattle.vpn_holdings.specs.Touched.{touched, touched_rows}
 use Rattle.vpn_tables.specs.Stored.{entry_of, key_at}
 use Rattle.vpn_tables.proofs.Keeping.{few_steps, not_listed}
-use Rattle.vpn_tables.proofs.Touching.{few_touched, route_entry}
+use Rattle.vpn_tables.proofs.EntriesStay.{few_touched, route_entry}
 use Rattle.vpn_tables.proofs.counted.change_route.Goals as goal
 
 pub returns-in-Ok-clause-stored : goal.returns-in-Ok-clause-stored

@@ -10,7 +10,7 @@ use Rattle.vpn_tables.specs.declared.stored.RowKey.{RowKey}
 use Rattle.vpn_tables.proofs.Order.{row_is}
 use Rattle.vpn_tables.proofs.following.refresh_one.Goals as goal
 
--- of the key alone
+-- what holds at a key, and of each key else, holds of each key by whether it is the one
 by_key : (P : RowKey → Bool → Type 0) (key : RowKey) → ((k : RowKey) → key ≡ k → P k true) → ((k : RowKey) → P k false) → (k : RowKey) → P k (is_row k key)
 by_key P key f g k = elim (is_row k key) as (λ t. is_row k key ≡ t → P k t) [ true ↦ λ t. f k (row_is k key t) | false ↦ λ _. g k ] refl
 

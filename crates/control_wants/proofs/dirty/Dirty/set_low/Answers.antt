@@ -5,7 +5,7 @@ use Rattle.vpn_tables.specs.NodeModel.Keys.{Low, Row}
 use Rattle.vpn_tables.specs.NodeModel.Maps.{object}
 use Rattle.vpn_tables.specs.NodeModel.Paths.{Holdings}
 use Rattle.vpn_tables.specs.Changes.{with_low}
-use Rattle.control_change_laws.specs.Here.{IsListOfPort, IsRowOf, port_here, put_by}
+use Rattle.vpn_tables.specs.Here.{IsListOfPort, IsRowOf, port_here, put_by}
 use Rattle.control_wants.specs.Marks.{Covers}
 use Rattle.control_wants.proofs.Growing.{within_then}
 use Rattle.control_wants.proofs.Marking.{covers_itself, covers_object, unless}

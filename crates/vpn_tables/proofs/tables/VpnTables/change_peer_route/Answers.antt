@@ -1,4 +1,4 @@
-use Rattle.std.proofs.Common.{◌≡◌, ap, sym, ◌∙◌}
+use Rattle.std.proofs.Common.{ap, sym, ◌∙◌}
 use Rattle.ov_sync.specs.Keyed.{key_of}
 use Rattle.node_model.specs.Paths.{Holdings}
 use Rattle.vpn_holdings.specs.Moved.{targets_by_route}

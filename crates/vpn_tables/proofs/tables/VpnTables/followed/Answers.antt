@@ -1,4 +1,4 @@
-use Rattle.std.proofs.Common.{◌≡◌, ap, subst, ◌∙◌}
+use Rattle.std.proofs.Common.{ap, subst, ◌∙◌}
 use Rattle.node_model.specs.Paths.{Holdings}
 use Rattle.vpn_tables.specs.Followed.{IsFollowed}
 use Rattle.vpn_tables.specs.Stored.{key_at, stored_at}

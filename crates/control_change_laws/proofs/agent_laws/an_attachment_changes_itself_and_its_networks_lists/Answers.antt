@@ -1,5 +1,0 @@
-use Rattle.control_change_laws.proofs.Slices.{attachment}
-use Rattle.control_change_laws.proofs.agent_laws.an_attachment_changes_itself_and_its_networks_lists.Goals as goal
-
-pub returns : goal.returns
-returns c = attachment

@@ -1,8 +1,0 @@
-use Rattle.control_change_laws.proofs.Objects.{peers_stay, tables_stay}
-use Rattle.control_change_laws.proofs.laws.an_attachment_changes_no_table.Goals as goal
-
-pub returns-clause-tables : goal.returns-clause-tables
-returns-clause-tables c = tables_stay
-
-pub returns-clause-peers : goal.returns-clause-peers
-returns-clause-peers c = peers_stay

@@ -1,8 +1,0 @@
-use Rattle.control_change_laws.proofs.Objects.{instance_peers, instance_tables}
-use Rattle.control_change_laws.proofs.laws.an_instance_that_stays_changes_its_own_table_alone.Goals as goal
-
-pub returns-clause-tables : goal.returns-clause-tables
-returns-clause-tables c = instance_tables
-
-pub returns-clause-peers : goal.returns-clause-peers
-returns-clause-peers c = instance_peers
