@@ -1,5 +1,5 @@
 -- Lists of keys that grow.
-use Rattle.std.specs.Prelude.{◌≡◌, ◌⊎◌, List, [], ◌∷◌, ◌++◌, map, Bool, true, false, cond, ◌||◌, ◌==◌}
+use Rattle.std.specs.Prelude.{◌≡◌, ◌⊎◌, List, [], ◌∷◌, ◌++◌, map, Bool, true, false, cond, ◌||◌, ◌==◌, ℕ}
 use Rattle.std.specs.declared.option.Option.{Option}
 use Rattle.std.specs.declared.option.Option.TheVariants.{Some}
 use Rattle.std.specs.declared.cmp.Ordering.{Ordering}
@@ -8,6 +8,7 @@ use Rattle.std.specs.Ordering.{eq_by_cmp, is_eq}
 use Rattle.std.specs.Cmp.{Equal-is, IsTotalOrder, tied_itself}
 use Rattle.std.specs.FinMap.{IsAntisymmetric, find, get, get-from_entries, get-insert, insert}
 use Rattle.std.proofs.Common.{refl, sym, ◌∙◌, ap, inl, inr, arith}
+use Rattle.std.proofs.lemmas.Bool.{eqb-true, true≢false}
 use Rattle.std.proofs.lemmas.Bool.Decides.{nat_tests}
 use Rattle.std.proofs.lemmas.Option.{same_Some}
 use Rattle.ov_types.specs.declared.prefix.Addr.{Addr}
@@ -116,3 +117,12 @@ pub not_found : (x : Addr) (xs : List Addr) → list_any (λ y. same_number y x)
 not_found x [] none n = n
 not_found x (y ∷ ys) none (inl e) = number_itself y x (or_none (same_number y x) (list_any (λ y. same_number y x) ys) none).0 e
 not_found x (y ∷ ys) none (inr n) = not_found x ys (or_none (same_number y x) (list_any (λ y. same_number y x) ys) none).1 n
+
+-- an address that is found is there
+pub was_found : (x : Addr) (xs : List Addr) → list_any (λ y. same_number y x) xs ≡ true → Member x xs
+was_found x [] found = absurd (true≢false (sym found))
+was_found x (y ∷ ys) found =
+    elim (same_number y x) as (λ b. same_number y x ≡ b → (b || list_any (λ y. same_number y x) ys) ≡ true → Member x (y ∷ ys)) [
+      | true ↦ λ same _. inl (ap (λ (n : ℕ). record { 0 = n }) (eqb-true y.0 x.0 same))
+      | false ↦ λ _ rest. inr (was_found x ys rest)
+    ] refl found

@@ -1,5 +1,5 @@
 -- What may have changed of what sessions are to be told, since they were told last.
-use Rattle.std.specs.Prelude.{◌≡◌, ◌≢◌, ◌⊎◌, ◌==◌, ℕ, List, map, Bool, if◌then◌else◌, true, false, is_some, refl}
+use Rattle.std.specs.Prelude.{◌≡◌, ◌≢◌, ◌⊎◌, ◌==◌, ℕ, List, [], map, Bool, if◌then◌else◌, true, false, is_some, refl}
 use Rattle.std.specs.declared.option.Option.{Option}
 use Rattle.std.specs.declared.option.Option.TheVariants.{Some, None}
 use Rattle.std.specs.Coded.{Coded, code_by, coded×, coded_bool, coded_list, coded_option}
@@ -13,6 +13,8 @@ use Rattle.ov_types.specs.declared.keys.DownKey.{DownKey}
 use Rattle.ov_types.specs.declared.keys.DownKey.TheVariants as down
 use Rattle.ov_types.specs.Prefix.{Block}
 use Rattle.ov_types.specs.declared.numbers.InstanceId.{InstanceId}
+use Rattle.ov_types.specs.declared.keys.UpKey.{UpKey}
+use Rattle.ov_types.specs.declared.keys.UpKey.TheVariants as up
 use Rattle.ov_types.specs.declared.objects.LowKey.{LowKey}
 use Rattle.ov_types.specs.declared.objects.LowKey.TheVariants as key
 use Rattle.ov_types.specs.declared.objects.LowValue.{LowValue}
@@ -20,6 +22,7 @@ use Rattle.ov_types.specs.declared.prefix.Addr.{Addr}
 use Rattle.ov_types.specs.declared.rows.TableRow.{TableRow}
 use Rattle.ov_types.specs.declared.vpn.VpnKey.{VpnKey}
 use Rattle.vpn_tables.specs.NodeModel.Directions.{down_order}
+use Rattle.vpn_tables.specs.NodeModel.Maps.{object}
 use Rattle.vpn_tables.specs.NodeModel.Members.{Member}
 use Rattle.vpn_tables.specs.NodeModel.Keys.{Key, Low, Row, Subscribe, Vpn, of_down}
 use Rattle.vpn_tables.specs.NodeModel.Paths.{Holdings, Told}
@@ -27,9 +30,10 @@ use Rattle.vpn_tables.specs.NodeModel.Wants.{wanted_by_peers}
 use Rattle.vpn_tables.specs.Listing.{told_in}
 use Rattle.vpn_tables.specs.At.{selected_at}
 use Rattle.vpn_tables.specs.Followed.{IsFollowed, key_led, led_of}
+use Rattle.vpn_tables.specs.TouchedKeys.{key_published}
 use Rattle.vpn_tables.specs.declared.changes.Followed.{Followed}
 use Rattle.vpn_tables.specs.declared.changes.RowChange.{RowChange}
-use Rattle.vpn_tables.specs.Here.{port_here, wanted_on}
+use Rattle.vpn_tables.specs.Here.{IsListOfPort, IsRowOf, port_here, wanted_on}
 use Rattle.control_wants.specs.declared.whom.Whom.{Whom}
 use Rattle.control_wants.specs.declared.whom.Whom.TheVariants.{Every, Only, Subscribers}
 
@@ -170,6 +174,24 @@ no_route k = ⊥
 abbrev pub no_item : Told → Key → Type 0
 no_item a k = ⊥
 
+-- of agents nothing is marked
+pub record AreAgentsUnmarked (d : Marks) : Type 0 where
+  pub all : d.all ≡ false
+  pub addresses : d.addresses ≡ []
+  pub items : d.items ≡ []
+
+-- each key that is marked of agents is marked of these
+abbrev pub AreAllOf : Marks → Whom → Type 0
+AreAllOf d whom = (x : DownKey) (other : Whom) → marked_of d x ≡ Some other → other ≡ whom
+
+-- a row of an instance with one of some prefixes
+abbrev pub IsOfTable : InstanceId → List (Block × TableRow) → Told → Key → Type 0
+IsOfTable i rows a k = (e : Block × TableRow) × (Member e rows × (k ≡ Row i e.0))
+
+-- a key of an agent at an address: a row that the table of an instance has, where nothing was marked of agents before
+abbrev pub IsOfSubscriber : Marks → Holdings → InstanceId → Addr → Told → Key → Type 0
+IsOfSubscriber d h i address a k = (a.address ≡ address) × (AreAgentsUnmarked d → IsRowOf h i k)
+
 -- a key of peers that may not be there
 abbrev pub IsKey : Option VpnKey → Key → Type 0
 IsKey key k = option_map Vpn key ≡ Some k
@@ -216,3 +238,36 @@ pub record RowMoves (h h' : Holdings) (k : Key) : Type 0 where
 -- what a change of a peer's route marks at most
 abbrev pub MarksByRoute : VpnKey → Holdings → Holdings → Marks → Marks → Type 0
 MarksByRoute own h h' = MarksOnly (λ k. (k ≡ Vpn own) ⊎ LedMoves h h' k) (λ a k. RowMoves h h' k)
+
+-- what is told is a subscription, and the key is one of its agent, at most
+pub record IsOfSubscription (d : Marks) (h : Holdings) (session : ℕ) (told : UpKey) (a : Told) (k : Key) : Type 0 where
+  pub instance : InstanceId
+  pub subscribes : told ≡ up.Subscribe instance
+  pub of : IsOfSubscriber d h instance (told_in h.agents session).address a k
+
+-- what a change of what an agent told marks at most
+abbrev pub MarksByPublication : ℕ → UpKey → Holdings → Holdings → Marks → Marks → Type 0
+MarksByPublication session told h h' d =
+    MarksOnly (λ k. IsKey (key_published h session told) k ⊎ LedMoves h h' k) (λ a k. RowMoves h h' k ⊎ IsOfSubscription d h session told a k) d
+
+-- a name is that of an access list from a network among some objects
+abbrev pub IsListAmong : ℕ → List (LowKey × LowValue) → Told → Key → Type 0
+IsListAmong from objects a k = (e : LowKey × LowValue) × (Member e objects × ((to : ℕ) × ((e.0 ≡ key.Acl from to) × (k ≡ Low e.0))))
+
+-- a held access list of the network of the port that an object is
+abbrev pub IsListOf : Holdings → LowKey → Told → Key → Type 0
+IsListOf h name a k = (address : Addr) × IsListOfPort h.feed address (object h.feed name) k
+
+-- a row that the table of an instance of this name has
+pub record IsRowOfName (h : Holdings) (name : LowKey) (a : Told) (k : Key) : Type 0 where
+  pub number : ℕ
+  pub named : name ≡ key.Instance number
+  pub row : IsRowOf h (record { 0 = number }) k
+
+-- what an object of this name is beside itself
+abbrev pub IsBeside : Holdings → LowKey → Told → Key → Type 0
+IsBeside h name a k = IsListOf h name a k ⊎ IsRowOfName h name a k
+
+-- what a change of an object marks at most
+abbrev pub MarksByObject : LowKey → Holdings → Holdings → Marks → Marks → Type 0
+MarksByObject name h h' = MarksOnly no_route (λ a k. (k ≡ Low name) ⊎ (IsBeside h name a k ⊎ IsBeside h' name a k))

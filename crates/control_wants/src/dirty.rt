@@ -5,7 +5,8 @@ ghost use Rattle.vpn_tables.specs.NodeModel.Directions.{down_order, vpn_order};
 ghost use Rattle.vpn_tables.specs.NodeModel.Keys.{Key, Vpn, of_down};
 ghost use Rattle.vpn_tables.specs.NodeModel.Members.{Member};
 ghost use Rattle.vpn_tables.specs.NodeModel.Paths.{Told};
-ghost use Rattle.control_wants.specs.Marks.{IsCleanItem, IsCleanRoute, IsWithin, MarksOnly, is_of, no_item, no_route};
+ghost use Rattle.control_wants.specs.Marks.{AreAgentsUnmarked, AreAllOf, IsCleanItem, IsCleanRoute, IsWithin};
+ghost use Rattle.control_wants.specs.Marks.{MarksOnly, is_of, no_item, no_route};
 
 use crate::whom::{Whom, joined};
 use ov_sync::{Delta, SyncIn};
@@ -84,6 +85,7 @@ impl Dirty {
     pub fn is_whole(&self, address: Addr) -> bool
         ensures all { result ≡ false → self.now.all ≡ false }
         ensures address { result ≡ false → Member address self.now.addresses → ⊥ }
+        ensures whole { result ≡ true → self.now.all ≡ false → Member address self.now.addresses }
     {
         if self.all {
             return true;
@@ -95,6 +97,8 @@ impl Dirty {
     pub fn is_clean_at(&self, address: Addr) -> bool
         ensures all { result ≡ true → self.now.all ≡ false }
         ensures clean { result ≡ true → (a : Told) → a.address ≡ address → (k : Key) → IsCleanItem self.now a k }
+        ensures items { result ≡ true → self.now.items ≡ [] }
+        ensures other { result ≡ false → AreAgentsUnmarked self.now → ⊥ }
     {
         if self.is_whole(address) {
             return false;
@@ -123,6 +127,7 @@ impl Dirty {
         ensures within { IsWithin self.old self.new }
         ensures marked { self.new.all ≡ false → (a : Told) → a.address ≡ address → (k : Key)
             → IsCleanItem self.new a k → ⊥ }
+        ensures only { MarksOnly no_route (λ a k. a.address ≡ address) self.old self.new }
     {
         match self.addresses.push(address) {
             Ok(()) => {}
@@ -149,6 +154,7 @@ impl Dirty {
         ensures marked { self.new.all ≡ false → (a : Told) → is_of a key whom ≡ true
             → IsCleanItem self.new a (of_down key) → ⊥ }
         ensures only { MarksOnly no_route (λ a k. k ≡ of_down key) self.old self.new }
+        ensures own { AreAllOf self.old whom → AreAllOf self.new whom }
     {
         let all_of = joined(self.items.get(&key).copied(), whom);
         match self.items.apply(Delta::Put(key, all_of)) {

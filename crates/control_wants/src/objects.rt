@@ -13,7 +13,8 @@ ghost use Rattle.vpn_tables.specs.NodeModel.Wants.{slice};
 ghost use Rattle.vpn_tables.specs.Changes.{with_low};
 ghost use Rattle.vpn_tables.specs.Ranges.{Fits};
 ghost use Rattle.vpn_tables.specs.Here.{IsListOfPort, IsRowOf, port_here, put_by};
-ghost use Rattle.control_wants.specs.Marks.{AreListsMarked, Covered, IsCleanItem, IsPort, IsWithin};
+ghost use Rattle.control_wants.specs.Marks.{AreListsMarked, Covered, IsCleanItem, IsListAmong, IsListOf, IsPort};
+ghost use Rattle.control_wants.specs.Marks.{IsRowOfName, IsWithin, MarksByObject, MarksOnly, no_route};
 
 use crate::dirty::Dirty;
 use crate::told::{key_of, mark_table};
@@ -40,6 +41,7 @@ fn mark_name(dirty: &mut Dirty, tables: &VpnTables, delta: &Delta<LowKey, LowVal
     ensures known { dirty.new.all ≡ false → (n : ℕ) → key_of delta.now ≡ key.Instance n
         → is_some (object tables.now.feed (key_of delta.now)) ≡ is_some (put_by delta.now) }
     ensures marked { dirty.new.all ≡ false → (a : Told) → IsCleanItem dirty.new a (Low (key_of delta.now)) → ⊥ }
+    ensures only { MarksOnly no_route (λ a k. k ≡ Low (key_of delta.now)) dirty.old dirty.new }
 {
     let name = key_of(delta);
     let follows = match name {
@@ -60,6 +62,7 @@ fn mark_own_table(dirty: &mut Dirty, tables: &VpnTables, name: &LowKey)
     ensures marked { dirty.new.all ≡ false → (n : ℕ) → name.now ≡ key.Instance n → (a : Told) (q : Block)
         → is_some (get a.map (Subscribe (record { 0 = n }))) ≡ true → IsCleanItem dirty.new a (Row (record { 0 = n }) q)
         → IsRowOf tables.now (record { 0 = n }) (Row (record { 0 = n }) q) → ⊥ }
+    ensures only { MarksOnly no_route (IsRowOfName tables.now name.now) dirty.old dirty.new }
 {
     if dirty.is_all() {
         return;
@@ -125,6 +128,8 @@ fn mark_list(dirty: &mut Dirty, from: u16, name: LowKey)
     ensures within { IsWithin dirty.old dirty.new }
     ensures marked { dirty.new.all ≡ false → (to : ℕ) → name ≡ key.Acl from to → (a : Told)
         → IsCleanItem dirty.new a (Low name) → ⊥ }
+    ensures only { MarksOnly no_route (λ a k. (to : ℕ) × ((name ≡ key.Acl from to) × (k ≡ Low name)))
+        dirty.old dirty.new }
 {
     match name {
         LowKey::Acl { from: number, .. } if number == from => dirty.add_item(
@@ -139,6 +144,7 @@ fn mark_list(dirty: &mut Dirty, from: u16, name: LowKey)
 fn mark_lists(dirty: &mut Dirty, from: u16, objects: &[(LowKey, LowValue)])
     ensures within { IsWithin dirty.old dirty.new }
     ensures marked { AreListsMarked dirty.new from objects.now }
+    ensures only { MarksOnly no_route (IsListAmong from objects.now) dirty.old dirty.new }
 {
     for (name, _object) in objects {
         mark_list(dirty, from, *name);
@@ -149,6 +155,7 @@ fn mark_lists(dirty: &mut Dirty, from: u16, objects: &[(LowKey, LowValue)])
 fn mark_network(dirty: &mut Dirty, tables: &VpnTables, address: Addr, network: InstanceId)
     ensures within { IsWithin dirty.old dirty.new }
     ensures marked { AreListsMarked dirty.new network.0 (slice tables.now.feed address) }
+    ensures only { MarksOnly no_route (IsListAmong network.0 (slice tables.now.feed address)) dirty.old dirty.new }
 {
     match tables.slice(address) {
         Ok(objects) => mark_lists(dirty, network.0, &objects),
@@ -162,6 +169,8 @@ fn mark_object(dirty: &mut Dirty, tables: &VpnTables, value: &LowValue)
     ensures marked { dirty.new.all ≡ false → (name : NameOf) → object tables.now.feed name ≡ Some value.now
         → (a : Told) (k : Key) → IsCleanItem dirty.new a k
         → IsListOfPort tables.now.feed a.address (Some value.now) k → ⊥ }
+    ensures only { (name : NameOf) → object tables.now.feed name ≡ Some value.now
+        → MarksOnly no_route (IsListOf tables.now name) dirty.old dirty.new }
 {
     if let Some((address, network)) = port_of(value) {
         mark_network(dirty, tables, address, network);
@@ -174,6 +183,7 @@ fn mark_held(dirty: &mut Dirty, tables: &VpnTables, name: &LowKey, stays: bool)
     ensures within { IsWithin dirty.old dirty.new }
     ensures marked { stays ≡ false → dirty.new.all ≡ false → (a : Told) (k : Key) → IsCleanItem dirty.new a k
         → IsListOfPort tables.now.feed a.address (object tables.now.feed name.now) k → ⊥ }
+    ensures only { MarksOnly no_route (IsListOf tables.now name.now) dirty.old dirty.new }
 {
     if stays || dirty.is_all() {
         return;
@@ -195,6 +205,7 @@ impl Dirty {
         ensures err { OnErr result (tables.new ≡ tables.old) }
         ensures within { IsWithin self.old self.new }
         ensures covers { Covered self.old self.new tables.old tables.new }
+        ensures only { MarksByObject (key_of delta) tables.old tables.new self.old self.new }
     {
         let name = key_of(&delta);
         let stays = port_stays(tables, &delta);

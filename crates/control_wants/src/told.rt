@@ -14,10 +14,11 @@ ghost use Rattle.vpn_tables.specs.Listing.{told_in};
 ghost use Rattle.vpn_tables.specs.Followed.{HasMoved, IsListed, IsRowChange, key_led};
 ghost use Rattle.vpn_tables.specs.TouchedKeys.{key_published};
 ghost use Rattle.vpn_tables.specs.Here.{IsRowOf};
-ghost use Rattle.control_wants.specs.Marks.{AreChangesMarked, AreKeysMarked, AreTableRowsMarked};
+ghost use Rattle.control_wants.specs.Marks.{AreAllOf, AreChangesMarked, AreKeysMarked, AreTableRowsMarked};
 ghost use Rattle.control_wants.specs.Marks.{Covered, IsChangeMarked, IsCleanItem, IsCleanRoute, IsEither, IsKey};
-ghost use Rattle.control_wants.specs.Marks.{IsKeyMarked, IsLedMoved, IsOfLed, IsOfRow, IsRowMarked, IsRowMoved};
-ghost use Rattle.control_wants.specs.Marks.{IsWithin, MarksByRoute, MarksOnly, is_of, no_item, no_route};
+ghost use Rattle.control_wants.specs.Marks.{IsKeyMarked, IsLedMoved, IsOfLed, IsOfRow, IsOfSubscriber};
+ghost use Rattle.control_wants.specs.Marks.{IsOfSubscription, IsOfTable, IsRowMarked, IsRowMoved, IsWithin};
+ghost use Rattle.control_wants.specs.Marks.{MarksByPublication, MarksByRoute, MarksOnly, is_of, no_item, no_route};
 
 use crate::dirty::Dirty;
 use crate::whom::Whom;
@@ -43,6 +44,8 @@ pub(crate) fn key_of<K: Copy, V>(delta: &Delta<K, V>) -> K
 fn mark_table_rows(dirty: &mut Dirty, instance: InstanceId, rows: &[(Prefix, TableRow)], whom: Whom)
     ensures within { IsWithin dirty.old dirty.new }
     ensures marked { AreTableRowsMarked dirty.new whom instance rows.now }
+    ensures only { MarksOnly no_route (IsOfTable instance rows.now) dirty.old dirty.new }
+    ensures own { AreAllOf dirty.old whom → AreAllOf dirty.new whom }
 {
     for (prefix, _row) in rows {
         dirty.add_item(DownKey::Route(instance, *prefix), whom);
@@ -54,6 +57,8 @@ pub(crate) fn mark_table(dirty: &mut Dirty, tables: &VpnTables, instance: Instan
     ensures within { IsWithin dirty.old dirty.new }
     ensures marked { dirty.new.all ≡ false → (a : Told) (q : Block) → is_of a (down.Route instance q) whom ≡ true
         → IsCleanItem dirty.new a (Row instance q) → IsRowOf tables.now instance (Row instance q) → ⊥ }
+    ensures only { MarksOnly no_route (λ a k. IsRowOf tables.now instance k) dirty.old dirty.new }
+    ensures own { AreAllOf dirty.old whom → AreAllOf dirty.new whom }
 {
     match tables.table(instance) {
         Ok(rows) => mark_table_rows(dirty, instance, &rows, whom),
@@ -69,6 +74,7 @@ fn mark_subscribed(dirty: &mut Dirty, tables: &VpnTables, address: Addr, instanc
         → IsRowOf tables.now instance k → ⊥ }
     ensures kept { dirty.new.all ≡ false → (a b : Told) → a.address ≡ address → b.address ≡ address → (k : Key)
         → IsCleanItem dirty.new a k → IsCleanItem dirty.old b k }
+    ensures only { MarksOnly no_route (IsOfSubscriber dirty.old tables.now instance address) dirty.old dirty.new }
 {
     if dirty.is_clean_at(address) {
         mark_table(dirty, tables, instance, Whom::Only(address));
@@ -208,6 +214,8 @@ fn mark_own(dirty: &mut Dirty, tables: &VpnTables, session: u16, key: &UpKey)
         → a.address ≡ (told_in tables.now.agents session).address
         → b.address ≡ (told_in tables.now.agents session).address → (k : Key) → IsCleanItem dirty.new a k
         → IsCleanItem dirty.old b k }
+    ensures only { MarksOnly (IsKey (key_published tables.now session key.now))
+        (IsOfSubscription dirty.old tables.now session key.now) dirty.old dirty.new }
 {
     match key {
         UpKey::Subscribe(instance) => {
@@ -232,6 +240,7 @@ impl Dirty {
         ensures err { OnErr result (tables.new ≡ tables.old) }
         ensures within { IsWithin self.old self.new }
         ensures covers { Covered self.old self.new tables.old tables.new }
+        ensures only { MarksByPublication session (key_of delta) tables.old tables.new self.old self.new }
     {
         tables.uses_are_in_range();
         mark_own(self, tables, session, &key_of(&delta));

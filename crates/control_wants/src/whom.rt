@@ -1,5 +1,5 @@
 //! The agents for which a key is marked.
-ghost use Rattle.std.specs.Prelude.{◌≡◌, true};
+ghost use Rattle.std.specs.Prelude.{◌≡◌, true, None, Some};
 ghost use Rattle.ov_types.specs.declared.keys.DownKey.{DownKey as DownKeyOf};
 ghost use Rattle.vpn_tables.specs.NodeModel.Paths.{Told};
 ghost use Rattle.control_wants.specs.Marks.{is_marked, is_of};
@@ -19,6 +19,8 @@ pub enum Whom {
 /// The agents for which a key is marked, once these are marked too.
 pub(crate) fn joined(before: Option<Whom>, whom: Whom) -> Whom
     ensures keeps { (a : Told) (key : DownKeyOf) → is_marked a key before ≡ true → is_of a key result ≡ true }
+    ensures first { before ≡ None → result ≡ whom }
+    ensures same { before ≡ Some whom → result ≡ whom }
     ensures adds { (a : Told) (key : DownKeyOf) → is_of a key whom ≡ true → is_of a key result ≡ true }
 {
     match (before, whom) {

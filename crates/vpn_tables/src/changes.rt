@@ -69,8 +69,9 @@ impl VpnTables {
             → HasMoved self.old self.new i q → IsListed rows.items i q)) }
     {
         self.uses_are_short();
-        let listed = self.rows_by_route(session, &delta);
-        self.set_peer_route_counted(session, delta, steps)?;
+        let touched = self.touched_by_route(session, &delta)?;
+        let listed = list_unchanged(self.alloc, self, touched.as_slice());
+        self.set_peer_route_at(touched.as_slice(), session, delta, steps)?;
         Ok(self.changed_of(listed))
     }
 
@@ -91,35 +92,10 @@ impl VpnTables {
             → HasMoved self.old self.new i q → IsListed rows.items i q)) }
     {
         self.uses_are_short();
-        let listed = self.rows_by_publication(session, &delta);
-        self.set_publication_counted(session, delta, steps)?;
+        let touched = self.touched_by_publication(session, &delta)?;
+        let listed = list_unchanged(self.alloc, self, touched.as_slice());
+        self.set_publication_at(touched.as_slice(), session, delta, steps)?;
         Ok(self.changed_of(listed))
-    }
-
-    /// The rows that a change of a peer's route touches, with what follows there before it.
-    fn rows_by_route(
-        &self,
-        session: u16,
-        delta: &Delta<VpnKey, VpnRoute>,
-    ) -> Result<Vec<RowChange>, NoMemory>
-        ensures { IfOk result (λ rows. rows.items ≡ map (unchanged_at self.now)
-            (touched_rows self.now (targets_by_route self.now session delta.now) (key_of delta.now).prefix)) }
-    {
-        let touched = self.touched_by_route(session, delta)?;
-        list_unchanged(self.alloc, self, touched.as_slice())
-    }
-
-    /// The rows that a change of what an agent told touches, with what follows there before it.
-    fn rows_by_publication(
-        &self,
-        session: u16,
-        delta: &Delta<UpKey, Label>,
-    ) -> Result<Vec<RowChange>, NoMemory>
-        ensures { IfOk result (λ rows. rows.items ≡ map (unchanged_at self.now)
-            (rows_by_key self.now (targets_by_publication self.now session delta.now) (key_of delta.now))) }
-    {
-        let touched = self.touched_by_publication(session, delta)?;
-        list_unchanged(self.alloc, self, touched.as_slice())
     }
 
     /// Which of some rows are those at which something else follows now, where there was memory for the rows. It takes
@@ -174,18 +150,6 @@ fn push_change(changes: &mut Vec<RowChange>, change: &RowChange) -> Result<(), N
     Ok(())
 }
 
-fn push_unchanged(
-    changes: &mut Vec<RowChange>,
-    tables: &VpnTables,
-    instance: InstanceId,
-    prefix: &Prefix,
-) -> Result<(), NoMemory>
-    ensures { OnOk result (changes.new.items
-        ≡ changes.old.items ++ unchanged_at tables.now (instance, prefix.now) ∷ []) }
-{
-    push_change(changes, &unchanged(tables, instance, prefix))
-}
-
 /// Some rows, each with what follows there now, as if the same followed after a change.
 fn list_unchanged(
     alloc: Global,
@@ -196,7 +160,7 @@ fn list_unchanged(
 {
     let mut changes = Vec::new(alloc);
     for (instance, prefix) in rows {
-        push_unchanged(&mut changes, tables, *instance, prefix)?;
+        push_change(&mut changes, &unchanged(tables, *instance, prefix))?;
     }
     Ok(changes)
 }

@@ -1,10 +1,10 @@
 //! What a control node holds, with what follows from it, and how it changes.
 ghost use Rattle.std.specs.Prelude.{◌≡◌, ◌≤◌, ◌<◌, ◌+◌, OnOk, OnErr};
-ghost use Rattle.ov_sync.specs.Keyed.{PutOf, IsPut};
+ghost use Rattle.ov_sync.specs.Keyed.{PutOf, IsPut, key_of};
 ghost use Rattle.vpn_holdings.specs.Changes.{nothing, with_low, with_route, with_agent, with_publication, without};
 ghost use Rattle.vpn_holdings.specs.Moved.{targets_by_publication, targets_by_route};
 ghost use Rattle.vpn_holdings.specs.Ranges.{Fits};
-ghost use Rattle.vpn_holdings.specs.Touched.{touched};
+ghost use Rattle.vpn_holdings.specs.Touched.{rows_by_key, touched, touched_rows};
 
 use crate::agents::change_agent;
 use crate::counted::{change_publication, change_route};
@@ -12,7 +12,9 @@ use crate::dropping::drop_session;
 use crate::objects::change_low;
 use crate::stored::Stored;
 use ov_sync::Delta;
-use ov_types::{Addr, Label, LowKey, LowValue, NoMemory, UpKey, VpnKey, VpnRoute};
+use ov_types::{
+    Addr, InstanceId, Label, LowKey, LowValue, NoMemory, Prefix, UpKey, VpnKey, VpnRoute,
+};
 use path_select::Steps;
 use std::alloc::Global;
 use std::collections::BTreeMap;
@@ -78,10 +80,28 @@ impl VpnTables {
         ensures err { OnErr result (self.new ≡ self.old) }
         ensures steps { steps.new ≤ steps.old + touched self.old (targets_by_route self.old session delta) }
     {
+        let touched = self.touched_by_route(session, &delta)?;
+        self.set_peer_route_at(touched.as_slice(), session, delta, steps)
+    }
+
+    /// Applies a change that a peer told on its session and that touches these rows.
+    pub(crate) fn set_peer_route_at<L: Ledger>(
+        &mut self,
+        rows: &[(InstanceId, Prefix)],
+        session: u16,
+        delta: Delta<VpnKey, VpnRoute>,
+        steps: &mut Steps<L>,
+    ) -> Result<(), NoMemory>
+        requires { rows.now ≡ touched_rows self.old (targets_by_route self.old session delta) (key_of delta).prefix }
+        ensures ok { OnOk result (self.new ≡ with_route self.old session delta) }
+        ensures err { OnErr result (self.new ≡ self.old) }
+        ensures steps { steps.new ≤ steps.old + touched self.old (targets_by_route self.old session delta) }
+    {
         change_route(
             self.alloc,
             &mut self.held,
             &mut self.stored,
+            rows,
             session,
             delta,
             steps,
@@ -100,10 +120,28 @@ impl VpnTables {
         ensures err { OnErr result (self.new ≡ self.old) }
         ensures steps { steps.new ≤ steps.old + touched self.old (targets_by_publication self.old session delta) }
     {
+        let touched = self.touched_by_publication(session, &delta)?;
+        self.set_publication_at(touched.as_slice(), session, delta, steps)
+    }
+
+    /// Applies a change that an agent told on its session and that touches these rows.
+    pub(crate) fn set_publication_at<L: Ledger>(
+        &mut self,
+        rows: &[(InstanceId, Prefix)],
+        session: u16,
+        delta: Delta<UpKey, Label>,
+        steps: &mut Steps<L>,
+    ) -> Result<(), NoMemory>
+        requires { rows.now ≡ rows_by_key self.old (targets_by_publication self.old session delta) (key_of delta) }
+        ensures ok { OnOk result (self.new ≡ with_publication self.old session delta) }
+        ensures err { OnErr result (self.new ≡ self.old) }
+        ensures steps { steps.new ≤ steps.old + touched self.old (targets_by_publication self.old session delta) }
+    {
         change_publication(
             self.alloc,
             &mut self.held,
             &mut self.stored,
+            rows,
             session,
             delta,
             steps,

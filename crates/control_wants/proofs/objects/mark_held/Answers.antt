@@ -8,3 +8,6 @@ pub returns-in-Some-clause-marked : goal.returns-in-Some-clause-marked
 returns-in-Some-clause-marked c = λ _ all a k clean l.
     c.mark_object.ensures.marked all c.args.name.now (sym c.in-Some.ensures.object) a k clean
     (subst (λ (o : Option LowValue). IsListOfPort c.args.tables.now.feed a.address o k) (sym c.in-Some.ensures.object) l)
+
+pub returns-in-Some-clause-only : goal.returns-in-Some-clause-only
+returns-in-Some-clause-only c = c.mark_object.ensures.only c.args.name.now (sym c.in-Some.ensures.object)

@@ -12,8 +12,8 @@ returns-in-Ok-clause-stored g c =
     let h = c.args.held.now in
     let d = c.args.delta in
     let rows = rows_by_key h (targets_by_publication h c.args.session d) (key_of d) in
-    let keys : c.as_slice-keys.result.now ≡ map key_at rows = c.as_slice-keys.ensures.value ∙ c.in_ok-touched.ensures in
-    c.refresh.ensures.stored h (λ k. c.make_places.ensures.stays k ∙ c.requires k) (λ k none.
+    let keys : c.as_slice-keys.result.now ≡ map key_at rows = c.as_slice-keys.ensures.value ∙ c.in_ok-places.ensures ∙ ap (map key_at) c.requires.rows in
+    c.refresh.ensures.stored h (λ k. c.make_places.ensures.stays k ∙ c.requires.stored k) (λ k none.
     publication_entry h c.args.session d c.uses_are_short.ensures (key_of d) refl k (not_listed c.as_slice-keys.result.now rows k keys none) ∙ ap (λ g. entry_of g k) (sym c.in-Ok.ensures.ok))
 
 pub returns-in-Ok-clause-steps : goal.returns-in-Ok-clause-steps
@@ -22,8 +22,8 @@ returns-in-Ok-clause-steps g c =
     let d = c.args.delta in
     let targets = targets_by_publication h c.args.session d in
     few_steps c.refresh.new.steps c.args.steps.now c.as_slice-keys.result.now (rows_by_key h targets (key_of d)) (touched h targets)
-    c.refresh.ensures.steps (c.as_slice-keys.ensures.value ∙ c.in_ok-touched.ensures) (few_rows h targets (key_of d))
+    c.refresh.ensures.steps (c.as_slice-keys.ensures.value ∙ c.in_ok-places.ensures ∙ ap (map key_at) c.requires.rows) (few_rows h targets (key_of d))
 
 pub returns-clause-stored : goal.returns-clause-stored
 returns-clause-stored g c = λ k.
-    c.drop_empty.ensures k ∙ c.make_places.ensures.stays k ∙ c.requires k ∙ ap (λ g. entry_of g k) (sym c.in-Err.ensures.err)
+    c.drop_empty.ensures k ∙ c.make_places.ensures.stays k ∙ c.requires.stored k ∙ ap (λ g. entry_of g k) (sym c.in-Err.ensures.err)

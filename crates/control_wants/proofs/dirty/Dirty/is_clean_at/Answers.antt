@@ -24,3 +24,8 @@ returns-clause-clean c = λ none a at k. (
       (empty c.self.inside.items (ap length (sym c.iter.ensures.entries) ∙ sym c.len.ensures.value ∙ eqb-true c.len.result 0 none))
       ∙ ap (is_marked a x) (get-from_entries down_total [] x),
 )
+
+pub returns-clause-items : goal.returns-clause-items
+returns-clause-items c = λ none.
+    ap (λ (d : Marks). d.items) (sym c.self.view_is)
+    ∙ empty c.self.inside.items (ap length (sym c.iter.ensures.entries) ∙ sym c.len.ensures.value ∙ eqb-true c.len.result 0 none)

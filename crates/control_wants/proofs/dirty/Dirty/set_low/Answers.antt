@@ -6,9 +6,10 @@ use Rattle.vpn_tables.specs.NodeModel.Maps.{object}
 use Rattle.vpn_tables.specs.NodeModel.Paths.{Holdings}
 use Rattle.vpn_tables.specs.Changes.{with_low}
 use Rattle.vpn_tables.specs.Here.{IsListOfPort, IsRowOf, port_here, put_by}
-use Rattle.control_wants.specs.Marks.{Covers}
+use Rattle.control_wants.specs.Marks.{Covers, IsListOf, IsRowOfName, Marks, MarksOnly, no_route}
 use Rattle.control_wants.proofs.Growing.{within_then}
 use Rattle.control_wants.proofs.Marking.{covers_itself, covers_object, unless}
+use Rattle.control_wants.proofs.Only.{marked_after, marked_before}
 use Rattle.control_wants.proofs.dirty.Dirty.set_low.Goals as goal
 
 pub returns-in_err-set_low-clause-within : goal.returns-in_err-set_low-clause-within
@@ -52,3 +53,27 @@ returns-in_err-set_low-clause-covers c = λ _.
     covers_itself c.args.self.now c.mark_own_table.new.dirty
     (within_then _ _ _ (within_then _ _ _ c.mark_name.ensures.within c.mark_held.ensures.within) c.mark_own_table.ensures.within)
     c.args.tables.now c.set_low.new.self c.in_err-set_low.ensures.err
+
+abbrev AreListsOnly : Holdings → Marks → Marks → LowKey → Type 0
+AreListsOnly h d d' name = MarksOnly no_route (IsListOf h name) d d'
+
+abbrev AreRowsOnly : Holdings → Marks → Marks → LowKey → Type 0
+AreRowsOnly h d d' name = MarksOnly no_route (IsRowOfName h name) d d'
+
+pub returns-in_err-set_low-clause-only : goal.returns-in_err-set_low-clause-only
+returns-in_err-set_low-clause-only c =
+    let h = c.args.tables.now in
+    marked_before (key_of c.args.delta) h c.set_low.new.self c.args.self.now c.mark_name.new.dirty c.mark_held.new.dirty c.mark_own_table.new.dirty c.mark_name.ensures.only
+    (subst (AreListsOnly h c.mark_name.new.dirty c.mark_held.new.dirty) c.key_of.ensures c.mark_held.ensures.only)
+    (subst (AreRowsOnly h c.mark_held.new.dirty c.mark_own_table.new.dirty) c.key_of-2.ensures c.mark_own_table.ensures.only)
+
+pub returns-clause-only : goal.returns-clause-only
+returns-clause-only c =
+    let h = c.args.tables.now in
+    let g = c.set_low.new.self in
+    let before = marked_before (key_of c.args.delta) h g c.args.self.now c.mark_name.new.dirty c.mark_held.new.dirty c.mark_own_table.new.dirty c.mark_name.ensures.only
+    (subst (AreListsOnly h c.mark_name.new.dirty c.mark_held.new.dirty) c.key_of.ensures c.mark_held.ensures.only)
+    (subst (AreRowsOnly h c.mark_held.new.dirty c.mark_own_table.new.dirty) c.key_of-2.ensures c.mark_own_table.ensures.only) in
+    marked_after (key_of c.args.delta) h g c.args.self.now c.mark_own_table.new.dirty c.mark_held-2.new.dirty c.mark_own_table-2.new.dirty before
+    (subst (AreListsOnly g c.mark_own_table.new.dirty c.mark_held-2.new.dirty) c.key_of-name.ensures c.mark_held-2.ensures.only)
+    (subst (AreRowsOnly g c.mark_held-2.new.dirty c.mark_own_table-2.new.dirty) c.key_of-name.ensures c.mark_own_table-2.ensures.only)

@@ -1,11 +1,11 @@
-use Rattle.std.proofs.Common.{◌≡◌, subst}
+use Rattle.std.proofs.Common.{◌≡◌, inr, subst}
 use Rattle.ov_sync.specs.Keyed.{key_of}
 use Rattle.ov_types.specs.declared.vpn.VpnKey.{VpnKey}
 use Rattle.vpn_tables.specs.NodeModel.Keys.{Vpn}
 use Rattle.control_wants.specs.Marks.{Marks, MarksOnly, no_item}
 use Rattle.control_wants.proofs.Growing.{within_then}
 use Rattle.control_wants.proofs.Marking.{covers_itself}
-use Rattle.control_wants.proofs.Only.{known_only, own_only}
+use Rattle.control_wants.proofs.Only.{known_only, only_then, route_only}
 use Rattle.control_wants.proofs.Telling.{route_covered}
 use Rattle.control_wants.proofs.dirty.Dirty.set_peer_route.Goals as goal
 
@@ -26,9 +26,11 @@ returns-clause-covers c = λ all.
 
 pub returns-in_err-changes-clause-only : goal.returns-in_err-changes-clause-only
 returns-in_err-changes-clause-only c =
-    own_only (key_of c.args.delta) c.args.tables.now c.change_route.new.tables c.args.self.now c.add_route.new.self (subst (IsMarkedOnly c.args.self.now c.add_route.new.self) c.key_of.ensures c.add_route.ensures.only)
+    route_only (key_of c.args.delta) c.args.tables.now c.change_route.new.tables c.args.self.now c.add_route.new.self (subst (IsMarkedOnly c.args.self.now c.add_route.new.self) c.key_of.ensures c.add_route.ensures.only)
 
 pub returns-clause-only : goal.returns-clause-only
 returns-clause-only c =
-    known_only (key_of c.args.delta) c.args.tables.now c.change_route.new.tables (λ v. v.items) c.args.self.now c.add_route.new.self c.mark_known.new.dirty
-    (subst (IsMarkedOnly c.args.self.now c.add_route.new.self) c.key_of.ensures c.add_route.ensures.only) _ c.in_ok-changes.ensures.each c.mark_known.ensures.only c.mark_known.ensures.none
+    let h = c.args.tables.now in
+    let g = c.change_route.new.tables in
+    only_then _ _ _ c.add_route.new.self _ (route_only (key_of c.args.delta) h g c.args.self.now c.add_route.new.self (subst (IsMarkedOnly c.args.self.now c.add_route.new.self) c.key_of.ensures c.add_route.ensures.only))
+    (known_only h g _ _ (λ k e. inr e) (λ a k e. e) (λ v. v.items) c.add_route.new.self c.mark_known.new.dirty _ c.in_ok-changes.ensures.each c.mark_known.ensures.only c.mark_known.ensures.none)

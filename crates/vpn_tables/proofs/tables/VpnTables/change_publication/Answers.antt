@@ -1,9 +1,9 @@
-use Rattle.std.proofs.Common.{refl, ap, sym, ◌∙◌}
+use Rattle.std.proofs.Common.{◌≡◌, IfOk, refl, ap, map, subst, sym, ◌∙◌}
 use Rattle.ov_sync.specs.Keyed.{key_of}
 use Rattle.node_model.specs.Paths.{Holdings}
 use Rattle.vpn_holdings.specs.Moved.{targets_by_publication}
 use Rattle.vpn_holdings.specs.Touched.{rows_by_key}
-use Rattle.vpn_tables.specs.Followed.{followed_at}
+use Rattle.vpn_tables.specs.Followed.{followed_at, unchanged_at}
 use Rattle.vpn_tables.proofs.MovedRows.{each_told, every_told, publication_followed}
 use Rattle.vpn_tables.proofs.tables.VpnTables.change_publication.Goals as goal
 
@@ -11,11 +11,15 @@ pub returns-clause-each : goal.returns-clause-each
 returns-clause-each g c =
     let h = c.args.self.now in
     let d = c.args.delta in
-    each_told (λ v. v.items) h c.set_publication_counted.new.self (rows_by_key h (targets_by_publication h c.args.session d) (key_of d)) c.rows_by_publication-listed.result c.changed_of.result c.rows_by_publication-listed.ensures c.changed_of.ensures.other c.changed_of.ensures.none
+    each_told (λ v. v.items) h c.set_publication_at.new.self (rows_by_key h (targets_by_publication h c.args.session d) (key_of d)) c.list_unchanged-listed.result c.changed_of.result
+    (subst (λ rows. IfOk c.list_unchanged-listed.result (λ all. all.items ≡ map (unchanged_at h) rows)) (c.as_slice.ensures.value ∙ c.in_ok-touched.ensures) c.list_unchanged-listed.ensures)
+    c.changed_of.ensures.other c.changed_of.ensures.none
 
 pub returns-clause-every : goal.returns-clause-every
 returns-clause-every g c =
     let h = c.args.self.now in
     let d = c.args.delta in
-    every_told (λ v. v.items) h c.set_publication_counted.new.self (rows_by_key h (targets_by_publication h c.args.session d) (key_of d)) c.rows_by_publication-listed.result c.changed_of.result c.rows_by_publication-listed.ensures c.changed_of.ensures.other c.changed_of.ensures.none
-    (λ i q clean. publication_followed h c.args.session d c.uses_are_short.ensures (key_of d) refl i q clean ∙ ap (λ (g : Holdings). followed_at g i q) (sym c.in_ok-set_publication_counted.ensures.ok))
+    every_told (λ v. v.items) h c.set_publication_at.new.self (rows_by_key h (targets_by_publication h c.args.session d) (key_of d)) c.list_unchanged-listed.result c.changed_of.result
+    (subst (λ rows. IfOk c.list_unchanged-listed.result (λ all. all.items ≡ map (unchanged_at h) rows)) (c.as_slice.ensures.value ∙ c.in_ok-touched.ensures) c.list_unchanged-listed.ensures)
+    c.changed_of.ensures.other c.changed_of.ensures.none
+    (λ i q clean. publication_followed h c.args.session d c.uses_are_short.ensures (key_of d) refl i q clean ∙ ap (λ (g : Holdings). followed_at g i q) (sym c.in_ok-set_publication_at.ensures.ok))
