@@ -1,19 +1,15 @@
 -- What stays where ends are cleared: who is there.
-use Rattle.std.specs.Prelude.{◌≡◌, ◌+◌, ◌<◌, ℕ, zero, suc, List, [], length, map, Bool, true, false, cond}
+use Rattle.std.specs.Prelude.{◌≡◌, ◌+◌, ℕ, zero, suc, List, [], length, map, Bool, true, false, cond}
 use Rattle.std.specs.declared.option.Option.{Option}
 use Rattle.std.specs.declared.option.Option.TheVariants.{Some, None}
-use Rattle.std.proofs.Common.{refl, sym, ◌∙◌, ap, subst, arith, inl, inr}
-use Rattle.std.proofs.lemmas.Bool.{cases_eq}
+use Rattle.std.proofs.Common.{refl, sym, ◌∙◌, ap}
 use Rattle.ov_types.specs.First.{same_name}
 use Rattle.running_nodes.specs.MachineModel.Setup.{Name}
 use Rattle.running_nodes.specs.Seats.{Seat, far_of, index_from, is_down_at, live_at, name_of, seat, seat_named}
-use Rattle.running_nodes.specs.Stands.{IsLong}
-use Rattle.running_nodes.specs.Steps.{cleared, cleared_at, cleared_from, told_of_loss, with_link, with_notice, with_seat}
+use Rattle.running_nodes.specs.Steps.{cleared, cleared_at, cleared_from, told_of_loss, with_link, with_notice}
 use Rattle.running_nodes.specs.declared.place.SessionPlace.{SessionPlace}
 use Rattle.running_laws.proofs.FirstPlaces.{map_twice}
 use Rattle.running_laws.proofs.Lists.{AreAlike, index_map, same_who, with_alike}
-use Rattle.net_machine.specs.Seating.{AreLong}
-use Rattle.net_machine.proofs.Kept.{with_count, with_here, with_there}
 
 link_alike : (seats : List Seat) (p : SessionPlace) (messages : List (List ℕ)) → AreAlike seats (with_link p messages seats)
 link_alike seats p messages = with_alike p.node _ seats refl
@@ -59,13 +55,3 @@ named_by_names a b name e =
     index_map (λ m. same_name m name) (λ (n : Seat). name_of n.who) 0 a
     ∙ ap (index_from 0 (λ m. same_name m name)) e
     ∙ sym (index_map (λ m. same_name m name) (λ (n : Seat). name_of n.who) 0 b)
-
--- ---- one seat is another
-pub long_with : (seats : List Seat) (k : ℕ) (n : Seat) → k < length seats → AreLong seats → IsLong n
-    → AreLong (with_seat k n seats)
-long_with seats k n within long is j below =
-    elim (cases_eq j k) as (λ _. IsLong (seat (with_seat k n seats) j)) [
-      | inl at ↦ subst IsLong (sym (with_here seats k n within) ∙ (λ i. seat (with_seat k n seats) (sym at i))) is
-      | inr off ↦ subst IsLong (sym (with_there seats k j n off))
-          (long j (let c = with_count seats k n in omega (arith, below, c)))
-    ]

@@ -90,4 +90,3 @@ pub orders_as : (seats after : List Seat) (order then : List SessionEnds) (m : O
 orders_as seats after order then None moved is keeps h =
     (keeps refl, subst (λ b. OrdersThen b after order then) is h)
 orders_as seats after order then (Some m) moved is keeps h = subst (λ b. OrdersThen b after order then) is h
-    (t_is ∙ ap (λ (z : Checked). z.topology) (same_setup found x (sym who ∙ at)))

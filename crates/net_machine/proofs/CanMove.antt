@@ -4,10 +4,10 @@ use Rattle.std.specs.Prelude.{true, false, cond, not}
 use Rattle.std.specs.declared.option.Option.{Option}
 use Rattle.std.specs.declared.option.Option.TheVariants.{Some, None}
 use Rattle.std.specs.Cmp.Lexicographic.{bytes_decides}
-use Rattle.std.specs.List.{All, AllByRecursion, Contains, slice_index_or}
+use Rattle.std.specs.List.{All, Contains, slice_index_or}
 use Rattle.std.specs.Option.{option_map, unwrap_or}
-use Rattle.std.proofs.Common.{refl, sym, ◌∙◌, ap, subst, arith, inl, inr}
-use Rattle.std.proofs.lemmas.List.{get_or-append-add, length-append, length-map}
+use Rattle.std.proofs.Common.{refl, sym, ◌∙◌, ap, subst, arith, inl, inr, get_or}
+use Rattle.std.proofs.lemmas.List.{length-append, length-map}
 use Rattle.std.proofs.lemmas.Option.{same_Some}
 use Rattle.std.proofs.lemmas.List.Elements.{All-contains}
 use Rattle.ov_types.specs.First.{same_name}
@@ -17,8 +17,8 @@ use Rattle.config_check.specs.Finding.{node_named}
 use Rattle.config_check.specs.Rules.{controller_names}
 use Rattle.config_check.proofs.Edited.{nodes_form_is_kept}
 use Rattle.config_check.proofs.Validity.{form_of}
-use Rattle.config_types.specs.Form.{has_edit_form}
-use Rattle.config_types.specs.Form.{has_event_form}
+use Rattle.config_types.specs.Form.{has_edit_form, has_event_form, has_topology_form}
+use Rattle.config_types.specs.declared.config.Config.{Config}
 use Rattle.config_types.specs.declared.edit.Edit.{Edit}
 use Rattle.config_types.specs.declared.event.Event.{Event}
 use Rattle.config_types.specs.declared.event.Event.TheVariants as event
@@ -27,31 +27,34 @@ use Rattle.config_types.specs.declared.topology.Topology.{Topology}
 use Rattle.running_laws.specs.MachineLaws.Setups.{IsNamed}
 use Rattle.running_laws.specs.MachineLaws.Headline.{IsWritten}
 use Rattle.running_laws.proofs.MachineLaws.Written.{none_broken}
-use Rattle.running_nodes.specs.MachineModel.Network.{MachineState}
+use Rattle.running_nodes.specs.MachineModel.Network.{MachineState, config}
 use Rattle.running_nodes.specs.MachineModel.Session.{Agent, Configuration, Controller}
-use Rattle.running_nodes.specs.MachineModel.Setup.{Move, Name, Setup, checked, id_of, listed_by, lists, moves}
+use Rattle.running_nodes.specs.MachineModel.Setup.{Move, Name, Setup, checked, listed_by, moves}
 use Rattle.running_nodes.proofs.MachineModel.Changing.{MoverIs, Moves, renews}
-use Rattle.running_nodes.proofs.MachineModel.Distinct.{Apart, apart_of}
 use Rattle.node_model.specs.Members.{Member}
-use Rattle.node_model.proofs.Members.{any_in, contains_of, from_map, none_some}
+use Rattle.node_model.proofs.Members.{contains_of, from_filter, from_map, none_some}
 use Rattle.running_nodes.specs.Controls.{Controls, first_agent}
 use Rattle.running_nodes.specs.Seats.{Who, Controlling, Forwarding, Seat, agent_plan, control_plan}
-use Rattle.running_nodes.specs.Seats.{name_of, name_there, names_of, nobody, other, others_of, place_at, place_of, role_of, seat}
+use Rattle.running_nodes.specs.Seats.{name_of, name_there, names_of, no_node, nobody, other, others_of, place_at, place_of, role_of, seat}
 use Rattle.running_nodes.specs.Seats.{seat_named, session_with, whos}
 use Rattle.running_nodes.specs.declared.place.SessionPlace.{SessionPlace}
 use Rattle.running_nodes.specs.Stands.{StandsFor}
 use Rattle.running_nodes.specs.Fresh.{IsSetUp}
 use Rattle.running_nodes.proofs.SetUp.{set_up}
+use Rattle.running_laws.proofs.FirstPlaces.{member_of_at}
 use Rattle.running_laws.proofs.Lists.{who_at}
+use Rattle.running_laws.proofs.MovedFrom.{config_off, site_off}
+use Rattle.running_laws.proofs.Named.{AreNodes, are_nodes}
+use Rattle.running_laws.proofs.VacantNames.{named_at}
 use Rattle.running_laws.specs.Wiring.{HasNumbers, IsPlace, name_at, other_at}
 use Rattle.running_laws.proofs.Parties.{site_in}
 use Rattle.running_laws.proofs.Seating.{ListsApart, seat_found, seat_of}
 use Rattle.running_laws.proofs.Written.{place_found, written_apart, written_named}
 use Rattle.running_laws.specs.Moments.{IsMoment}
 use Rattle.running_laws.proofs.Moments.{moment_numbers, moment_written}
-use Rattle.net_machine.specs.Moving.{AreLeft, CanCome, CanHappen, CanMoveIf, Differ, HasAgent, HasAgentsBehind, HasControls, HasRoom}
+use Rattle.net_machine.specs.Moving.{AreFound, CanCome, CanHappen, CanLeave, CanMoveIf, HasAgentsBehind, HasControl, HasControls, HasRoom}
 use Rattle.net_machine.specs.Moving.{control_at, control_name}
-use Rattle.net_machine.proofs.Coming.{get_past}
+use Rattle.net_machine.proofs.Coming.{control_within, get_past, up_to}
 use Rattle.net_machine.proofs.Forms.{edit_form}
 use Rattle.net_machine.proofs.Made.{same_controllers}
 use Rattle.net_machine.proofs.Room.{few_filtered, moment_few}
@@ -119,23 +122,7 @@ module _ (x : Setup) where
         has_controls (suc k)
         ∙ ap (option_map (λ (c : NodeId). c.name)) (get_past x.topology.controllers k (omega (arith, past, below)))
 
-control_within : (seats : List Seat) (k : ℕ) (name : Name) → control_name (seat seats k).who ≡ Some name → k < length seats
-control_within [] k name is = absurd (none_some name is)
-control_within (n ∷ seats) zero name is = omega arith
-control_within (n ∷ seats) (suc k) name is = let h = control_within seats k name is in omega (arith, h)
-
 -- ---- in lists
-item_at : {A : Type 0} (xs : List A) (x d : A) → Member x xs → (j : ℕ) × (slice_index_or xs j d ≡ x)
-item_at [] x d m = absurd m
-item_at (y ∷ ys) x d (inl e) = (0, e)
-item_at (y ∷ ys) x d (inr m) = let q = item_at ys x d m in (suc q.0, q.1)
-
-agent_there : (agents : List (Option NodeId)) (j : ℕ)
-    → slice_index_or (map name_there agents) j None ≡ name_there (slice_index_or agents j None)
-agent_there [] j = refl
-agent_there (a ∷ agents) zero = refl
-agent_there (a ∷ agents) (suc j) = agent_there agents j
-
 found_node : (ns : List Node) (name : Name) (r : Node) → find (λ (n : Node). same_name n.name name) ns ≡ Some r
     → Member r ns × (r.name ≡ name)
 found_node [] name r e = cc
@@ -159,13 +146,21 @@ session_there : (k : ℕ) (o : Option ℕ) (i : ℕ) → option_map (at_session 
 session_there k None i e = cc
 session_there k (Some j) i e = ap (λ (p : SessionPlace). Some p.session) (same_Some (at_session k j) (at_session k i) e)
 
-differs : (c : Name) (cs : List Name) → ((m : Name) → Member m cs → c ≡ m → ⊥) → AllByRecursion (λ d. c ≢ d) cs
-differs c [] h = tt
-differs c (d ∷ cs) h = (h d (inl refl), differs c cs (λ m i. h m (inr i)))
+-- ---- the ends of a control node
+abbrev controls_in : Controls → Who → Controls
+controls_in other (Controlling c) = c
+controls_in other who = other
 
-differ_of : (cs : List Name) → Apart cs → Differ cs
-differ_of [] a = tt
-differ_of (c ∷ cs) a = (differs c cs a.0, differ_of cs a.1)
+-- what is neither with the configuration node nor with another control node is behind those
+behind : (c : Controls) (name : Name) (i : ℕ) → slice_index_or (others_of (Controlling c)) i None ≡ Some name → config ≢ name
+    → ((d : NodeId) → Member d c.peers → d.name ≢ name) → first_agent c ≤ i
+behind c name zero e off peers_off = absurd (off (same_Some config name e))
+behind c name (suc j) e off peers_off =
+    elim (up_to (length c.peers) j) as (λ _. first_agent c ≤ suc j) [
+      | inl h ↦ omega (arith, h)
+      | inr h ↦ absurd (peers_off (slice_index_or c.peers j no_node) (member_of_at c.peers j no_node h)
+          (same_Some (slice_index_or c.peers j no_node).name name (sym (named_at c.peers (map name_there c.agents) j h) ∙ e)))
+    ]
 
 -- ---- at a moment
 module _ (w : MachineState) (m : IsMoment w) (seats : List Seat) (stands : StandsFor seats w) where
@@ -201,65 +196,26 @@ module _ (w : MachineState) (m : IsMoment w) (seats : List Seat) (stands : Stand
       let at : seat_named seats (name_at seats p) ≡ Some k = seat_found w.setup named numbers listed seats are k less in
       session_there k (session_with (seat seats k) name) i (sym (ap (place_at seats name) at) ∙ is)
 
-  -- the control node that a compute node lists has a session with its agent
-  module _ (r : Node) (in_nodes : Member r w.setup.topology.nodes) (k : NodeId)
-      (in_controllers : Member k w.setup.topology.controllers) (lists_it : lists r k ≡ true) where
-    abbrev plan : Controls
-    plan = control_plan w.setup k
+  -- each control node is found by its name
+  all_found : AreFound seats
+  all_found k c is =
+      let q = control_found w.setup seats are k c is in
+      let name : name_of (seat seats k).who ≡ c = ap name_of q.2 ∙ same_Some q.0.name c (sym (ap control_name q.2) ∙ is) in
+      ap (seat_named seats) (sym name) ∙ seat_found w.setup named numbers listed seats are k (control_within seats k c is)
 
-    number : (j : ℕ) × (slice_index_or plan.agents j None ≡ Some (id_of r))
-    number = item_at plan.agents (Some (id_of r)) None ((numbers k in_controllers).all r in_nodes lists_it)
-
-    there_at : slice_index_or (others_of (Controlling plan)) (first_agent plan + number.0) None ≡ Some r.name
-    there_at =
-        let same : length plan.peers + number.0 ≡ length (names_of plan.peers) + number.0 =
-        ap (λ n. n + number.0) (sym (length-map plan.peers (λ (n : NodeId). Some n.name))) in
-        let behind : first_agent plan + number.0 ≡ suc (length plan.peers + number.0) = omega arith in
-        ap (λ n. slice_index_or (others_of (Controlling plan)) n None) behind
-        ∙ ap (λ n. slice_index_or (names_of plan.peers ++ map name_there plan.agents) n None) same
-        ∙ get_or-append-add (names_of plan.peers) (map name_there plan.agents) number.0 None
-        ∙ agent_there plan.agents number.0 ∙ ap name_there number.1
-
-    has_agent : HasAgent seats r.name k.name
-    has_agent =
-        let within = site_in w.setup named numbers k in_controllers in
-        let q = seat_of w.setup named numbers listed seats are (Controlling plan) within in
-        let who : (seat seats q.0).who ≡ Controlling plan = q.2 in
-        let there : other (seat seats q.0) (first_agent plan + number.0) ≡ Some r.name =
-        ap (λ v. slice_index_or (others_of v) (first_agent plan + number.0) None) who ∙ there_at in
-        let found = found_here q.0 q.1 (first_agent plan + number.0) r.name there in
-        record {
-          node = q.0;
-          is = ap (seat_named seats) (sym (ap name_of who)) ∙ seat_found w.setup named numbers listed seats are q.0 q.1;
-          controls = plan;
-          who = who;
-          session = first_agent plan + number.0;
-          found = found;
-          behind = omega arith;
-          alone = λ i e. same_Some i (first_agent plan + number.0) (sym (found_here q.0 q.1 i r.name e) ∙ found);
-        }
-
-  listed_agent : (r : Node) → Member r w.setup.topology.nodes → (c : Name) → Member c r.controllers
-      → HasAgent seats r.name c
-  listed_agent r i c j =
+  -- the control nodes that a compute node lists are there
+  listed_control : (r : Node) → Member r w.setup.topology.nodes → (c : Name) → Member c r.controllers → HasControl seats c
+  listed_control r i c j =
       let q = from_map (λ (k : NodeId). k.name) c w.setup.topology.controllers (named.listed r c i j) in
-      subst (HasAgent seats r.name) q.2
-      (has_agent r i q.0 q.1 (any_in (same_name q.0.name) c r.controllers j ((bytes_decides q.0.name c).1 q.2)))
+      let at = seat_of w.setup named numbers listed seats are (Controlling (control_plan w.setup q.0))
+      (site_in w.setup named numbers q.0 q.1) in
+      (at.0, ap control_name at.2 ∙ ap Some q.2)
 
-  each_listed : (r : Node) → Member r w.setup.topology.nodes → (cs : List Name)
-      → ((c : Name) → Member c cs → Member c r.controllers) → AllByRecursion (HasAgent seats r.name) cs
-  each_listed r i [] into = tt
-  each_listed r i (c ∷ cs) into =
-      (listed_agent r i c (into c (inl refl)), each_listed r i cs (λ d j. into d (inr j)))
-
-  all_listed : (name : Name) (o : Option Node) → node_named w.setup.topology name ≡ o → AreLeft seats name (listed_by o)
-  all_listed name None is = record { each = tt; differ = tt }
-  all_listed name (Some r) is =
-      let q = found_node w.setup.topology.nodes name r is in
-      subst (λ name. AreLeft seats name r.controllers) q.1 (record {
-        each = each_listed r q.0 r.controllers (λ c j. j);
-        differ = differ_of r.controllers (apart_of r.controllers (listed r q.0));
-      })
+  all_listed : (name : Name) (o : Option Node) → node_named w.setup.topology name ≡ o → All (HasControl seats) (listed_by o)
+  all_listed name None is = λ k d below. absurd (omega (arith, below))
+  all_listed name (Some r) is = λ k d below.
+      listed_control r (found_node w.setup.topology.nodes name r is).0 (get_or r.controllers k d)
+      (member_of_at r.controllers k d below)
 
   -- ---- the nodes are few
   made_up : IsSetUp w.setup.topology
@@ -299,21 +255,48 @@ module _ (w : MachineState) (m : IsMoment w) (seats : List Seat) (stands : Stand
     abbrev then : Topology
     then = edited_topology d w.setup.topology
 
+    abbrev config_then : Config
+    config_then = edited_config d w.setup.config
+
+    form_then : IsTrue (has_topology_form then)
+    form_then =
+        form_of then config_then (nodes_form_is_kept d w.setup.topology form written.topology) (none_broken w.setup d none)
+
     made_up_then : IsSetUp then
-    made_up_then =
-        let valid = none_broken w.setup d none in
-        set_up then (edited_config d w.setup.config)
-        (form_of then (edited_config d w.setup.config) (nodes_form_is_kept d w.setup.topology form written.topology) valid)
-        valid
+    made_up_then = set_up then config_then form_then (none_broken w.setup d none)
+
+    nodes_then : AreNodes then
+    nodes_then = are_nodes (record w.setup { topology = then; config = config_then }) form_then (none_broken w.setup d none)
 
     module _ (move : Move) (is : moves d w.setup.topology ≡ Some move) where
       mover : Moves (Some move) w.setup.topology then
       mover = subst (λ (o : Option Move). Moves o w.setup.topology then) is (renews (checked w.setup) d none).mover
 
-      left_there : AreLeft seats move.name move.left
+      left_there : All (HasControl seats) move.left
       left_there =
-          subst (AreLeft seats move.name) (sym mover.0)
+          subst (All (HasControl seats)) (sym mover.0)
           (all_listed move.name (node_named w.setup.topology move.name) refl)
+
+      -- no control node, nor the configuration node, has its name
+      nodes_before : AreNodes w.setup.topology
+      nodes_before = are_nodes w.setup written.topology written.valid
+
+      same_sites : then.controllers ≡ w.setup.topology.controllers
+      same_sites = same_controllers d w.setup.topology
+
+      leaves_there : (k : ℕ) → CanLeave move.name (seat seats k)
+      leaves_there k c who i e =
+          let at : control_name (seat seats k).who ≡ Some c.me.name = ap control_name who in
+          let q = control_found w.setup seats are k c.me.name at in
+          let within = control_within seats k c.me.name at in
+          let same : c ≡ control_plan w.setup q.0 = ap (controls_in c) (sym who ∙ q.2) in (
+            behind c move.name i (ap (λ v. slice_index_or (others_of v) i None) (sym who) ∙ e)
+                (config_off move.name move.now w.setup then nodes_before nodes_then same_sites mover.1)
+                (λ p m. site_off move.name move.now w.setup then nodes_before nodes_then same_sites mover.1 p
+                (from_filter (λ (d : NodeId). not (same_name d.name q.0.name)) p w.setup.topology.controllers
+                (subst (λ (c : Controls). Member p c.peers) same m)).0),
+            λ j f. same_Some j i (sym (found_here k within j move.name f) ∙ found_here k within i move.name e),
+          )
 
       comes_there : (n : Node) → move.now ≡ Some n → CanCome then n
       comes_there n at =
@@ -330,6 +313,8 @@ module _ (w : MachineState) (m : IsMoment w) (seats : List Seat) (stands : Stand
     can_move None is = tt
     can_move (Some move) is = record {
       left = left_there move is;
+      leaves = leaves_there move is;
+      found = all_found;
       controls = λ k. has_controls w.setup seats are k ∙ same_control d k;
       agents = agents_behind w.setup seats are;
       few = made_up_then.controllers;

@@ -39,6 +39,7 @@ module _ (t : Kept) (x : Checked) (e : Edit) where
   pub then_where : (o : Option EditFault) → edit_fault x e ≡ o
       → ties_then tied x (event.Edit e) ≡ ties_with (edited_without o (opening x) e) tied
   then_where o is = ap (λ o. ties_with (edited_without o (opening x) e) tied) is
+
 -- ---- the configuration node's setup is one
 setup_of : Who → Checked → Checked
 setup_of (Configuring x) other = x

@@ -6,7 +6,7 @@ use Rattle.std.specs.List.{All, cons_option}
 use Rattle.std.specs.Option.{option_map}
 use Rattle.std.proofs.Common.{refl, sym, ◌∙◌, ap, subst, arith, inl, inr, get_or}
 use Rattle.std.proofs.lemmas.Bool.{cases_eq}
-use Rattle.std.proofs.lemmas.List.{length-set, get_or-set_same, get_or-set_other}
+use Rattle.std.proofs.lemmas.List.{length-set, get_or-set_same, get_or-set_other, set-set}
 use Rattle.ov_types.specs.First.{same_name}
 use Rattle.running_nodes.specs.MachineModel.Setup.{Name}
 use Rattle.running_nodes.specs.MachineModel.Session.{Session}
@@ -24,6 +24,9 @@ with_here seats k n h = get_or-set_same seats k n nobody h
 
 pub with_there : (seats : List Seat) (k j : ℕ) (n : Seat) → j ≢ k → seat (with_seat k n seats) j ≡ seat seats j
 with_there seats k j n h = get_or-set_other seats k j n nobody h
+
+pub with_twice : (seats : List Seat) (k : ℕ) (n m : Seat) → with_seat k m (with_seat k n seats) ≡ with_seat k m seats
+with_twice seats k n m = set-set seats k n m
 
 pub with_count : (seats : List Seat) (k : ℕ) (n : Seat) → length (with_seat k n seats) ≡ length seats
 with_count seats k n = length-set seats k n

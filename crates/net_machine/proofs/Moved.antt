@@ -1,12 +1,12 @@
 -- What a move of a compute node keeps.
-use Rattle.std.specs.Prelude.{◌≡◌, ◌≢◌, ◌+◌, ◌<◌, ◌≤◌, ◌&&◌, ℕ, zero, suc, List, [], ◌∷◌, ◌++◌, length, map, drop, Bool, true, false, cond}
+use Rattle.std.specs.Prelude.{◌≡◌, ◌+◌, ◌<◌, ◌≤◌, ℕ, zero, suc, List, [], ◌∷◌, ◌++◌, length, map, drop, Bool, true, false, cond}
 use Rattle.std.specs.declared.option.Option.{Option}
 use Rattle.std.specs.declared.option.Option.TheVariants.{Some, None}
-use Rattle.std.specs.List.{All, AllByRecursion, Contains}
+use Rattle.std.specs.List.{All, Contains}
 use Rattle.std.specs.Option.{IfSome}
-use Rattle.std.proofs.Common.{refl, sym, ◌∙◌, ap, subst, arith, inl, inr, get_or}
-use Rattle.std.proofs.lemmas.Bool.{and_parts, cases_eq}
-use Rattle.std.proofs.lemmas.List.{at_drop_more, drop_all, get_or-map, length-map}
+use Rattle.std.proofs.Common.{refl, sym, ◌∙◌, ap, subst, arith, get_or}
+use Rattle.std.proofs.lemmas.Bool.{and_parts}
+use Rattle.std.proofs.lemmas.List.{at_drop_more, drop_all, length-map}
 use Rattle.std.proofs.lemmas.Option.{same_Some}
 use Rattle.ov_types.specs.First.{same_name}
 use Rattle.config_check.specs.Checked.{Checked}
@@ -15,38 +15,27 @@ use Rattle.config_types.specs.declared.topology.Node.{Node}
 use Rattle.config_types.specs.declared.topology.Topology.{Topology}
 use Rattle.running_nodes.specs.MachineModel.Network.{same_role}
 use Rattle.running_nodes.specs.MachineModel.Session.{Role, Agent, Configuration, Controller}
-use Rattle.running_nodes.specs.MachineModel.Setup.{Move, Name, id_of, is_listed}
+use Rattle.running_nodes.specs.MachineModel.Setup.{Move, Name}
 use Rattle.running_nodes.specs.Controls.{Controls}
-use Rattle.running_nodes.specs.Moving.{Moves, PassesAll, PassesAt, before_passes, came, is_agent_named, is_listed_who, joined, joined_by}
-use Rattle.running_nodes.specs.Moving.{left_all, left_at, reseated, retired_of}
-use Rattle.running_nodes.specs.Moving.{seats_of}
-use Rattle.running_nodes.specs.Seats.{Who, Configuring, Controlling, Forwarding, Seat, index_from, name_of, nobody, other}
+use Rattle.running_nodes.specs.Moving.{Moves, PassesAll, PassesAt, before_passes, is_agent_named, reseated, resettled_at, seats_of}
+use Rattle.running_nodes.specs.Seats.{Who, Configuring, Controlling, Seat, index_from, name_of, nobody}
 use Rattle.running_nodes.specs.Seats.{others_of}
-use Rattle.running_nodes.specs.Seats.{role_of, seat, seat_named, session_with}
+use Rattle.running_nodes.specs.Seats.{role_of, seat, seat_named}
 use Rattle.running_nodes.specs.Stands.{IsLong}
-use Rattle.running_nodes.specs.Steps.{Passes, fresh_seat, with_seat}
+use Rattle.running_nodes.specs.Steps.{Passes, with_seat}
 use Rattle.running_laws.proofs.FirstPlaces.{at_map}
 use Rattle.running_laws.proofs.Lists.{AreAlike, same_who, with_alike}
-use Rattle.net_machine.specs.Moving.{AreLeft, CanMove, HasAgent, HasAgentsBehind, HasControls, HasRoom}
-use Rattle.net_machine.specs.Moving.{CanCome, IsControlNode, came_seat, control_name}
+use Rattle.running_laws.proofs.MovedSeat.{fresh_room}
+use Rattle.net_machine.specs.Moving.{AreFound, CanCome, CanLeave, CanMove, HasAgentsBehind, HasControl, HasControls, HasRoom}
+use Rattle.net_machine.specs.Moving.{IsControlNode, control_name}
 use Rattle.net_machine.specs.Seating.{AreLong, Keeps}
 use Rattle.net_machine.proofs.Alike.{cleared_alike, names_alike, named_by_names}
 use Rattle.net_machine.proofs.Changes.{cleared_keeps}
-use Rattle.net_machine.proofs.Coming.{came_long, is_controlling}
+use Rattle.net_machine.proofs.Coming.{first_at, is_controlling, long_at, same_control_at, same_names}
 use Rattle.net_machine.proofs.Kept.{with_count, with_keeps}
-use Rattle.net_machine.proofs.Leaving.{LeftAt, left_from, next_left}
-use Rattle.net_machine.proofs.Seating.{index_within, named_so, named_within}
+use Rattle.net_machine.proofs.Seating.{index_within, named_within}
 
 -- ---- its own seat
-fresh_long : (who : Who) → IsLong (fresh_seat who)
-fresh_long who = record {
-  posts = length-map (others_of who) _;
-  kept = length-map (others_of who) _;
-  links = length-map (others_of who) _;
-  breaks = length-map (others_of who) _;
-  notices = length-map (others_of who) _;
-}
-
 long_cons : (n : Seat) (ss : List Seat) → IsLong n → AreLong ss → AreLong (n ∷ ss)
 long_cons n ss is long zero below = is
 long_cons n ss is long (suc k) below = long k (omega (arith, below))
@@ -56,11 +45,11 @@ long_rest n ss long = λ k below. long (suc k) (omega (arith, below))
 
 agents_long : (t : Topology) (o : Option Node) (ss : List Seat) → AreLong ss → AreLong (seats_of t o ++ ss)
 agents_long t None ss long = long
-agents_long t (Some n) ss long = long_cons _ ss (fresh_long _) long
+agents_long t (Some n) ss long = long_cons _ ss (fresh_room _) long
 
 new_long : (t : Topology) (o : Option Node) → AreLong (seats_of t o)
 new_long t None = λ k below. absurd (omega (arith, below))
-new_long t (Some n) = long_cons _ [] (fresh_long _) (λ k below. absurd (omega (arith, below)))
+new_long t (Some n) = long_cons _ [] (fresh_room _) (λ k below. absurd (omega (arith, below)))
 
 pub reseated_long : (t : Topology) (name : Name) (o : Option Node) (seats : List Seat) → AreLong seats
     → AreLong (reseated name (seats_of t o) seats)
@@ -154,101 +143,11 @@ found_still test name new (n ∷ ss) behind i k m c is at e =
     later again zero is at e = let h = index_within test ss (suc i) m e in absurd (omega (arith, h.0, at))
     later again (suc j) is at e = again j is (omega (arith, at)) e
 
-agent_reseated : (agent : Name) (new seats : List Seat) (control : Name) → HasAgentsBehind seats
-    → HasAgent seats agent control → HasAgent (reseated agent new seats) agent control
-agent_reseated agent new seats control behind h =
-    let same = reseated_there agent new seats behind h.node h.controls h.who in
-    record {
-      node = h.node;
-      is = found_still (λ (n : Seat). same_name (name_of n.who) control) agent new seats behind 0 h.node h.node h.controls h.who
-          (omega arith) h.is;
-      controls = h.controls;
-      who = ap (λ (n : Seat). n.who) same ∙ h.who;
-      session = h.session;
-      found = ap (λ (n : Seat). session_with n agent) same ∙ h.found;
-      behind = h.behind;
-      alone = λ i e. h.alone i (sym (ap (λ (n : Seat). other n i) same) ∙ e);
-    }
-
-each_reseated : (agent : Name) (new seats : List Seat) (cs : List Name) → HasAgentsBehind seats
-    → AllByRecursion (HasAgent seats agent) cs → AllByRecursion (HasAgent (reseated agent new seats) agent) cs
-each_reseated agent new seats [] behind all = tt
-each_reseated agent new seats (c ∷ cs) behind all =
-    (agent_reseated agent new seats c behind all.0, each_reseated agent new seats cs behind all.1)
-
-pub left_reseated : (agent : Name) (new seats : List Seat) (cs : List Name) → HasAgentsBehind seats
-    → AreLeft seats agent cs → AreLeft (reseated agent new seats) agent cs
-left_reseated agent new seats cs behind left =
-    record { each = each_reseated agent new seats cs behind left.each; differ = left.differ }
-
--- ---- from one control node after the other
--- the nodes that are no agent's stay, and so do control nodes with their names
-pub record StaysWhole (seats after : List Seat) : Type 0 where
-  pub long : AreLong after
-  pub first : (x : Checked) → (seat seats 0).who ≡ Configuring x → (seat after 0).who ≡ Configuring x
-  pub controls : (k : ℕ) → control_name (seat after k).who ≡ control_name (seat seats k).who
-  pub room : HasRoom seats → HasRoom after
-  pub named : (c : Name) → IsControlNode seats c → IsControlNode after c
-
 -- control nodes are found by their names as before, where nodes keep their names
 still_named : (seats after : List Seat) → map (λ (n : Seat). name_of n.who) after ≡ map (λ (n : Seat). name_of n.who) seats
     → ((k : ℕ) → control_name (seat after k).who ≡ control_name (seat seats k).who) → (c : Name) → IsControlNode seats c
     → IsControlNode after c
 still_named seats after names controls c h k is = controls k ∙ h k (sym (named_by_names after seats c names) ∙ is)
-
-retired_control : (name : Name) (w : Who) → control_name (retired_of name w) ≡ control_name w
-retired_control name (Configuring x) = refl
-retired_control name (Controlling c) = refl
-retired_control name (Forwarding plan) = refl
-
-retired_first : (name : Name) (w : Who) (x : Checked) → w ≡ Configuring x → retired_of name w ≡ Configuring x
-retired_first name w x e = ap (retired_of name) e
-
-at_controls : (name : Name) (k : ℕ) (seats after : List Seat) → k < length seats → LeftAt name k seats after → (j : ℕ)
-    → control_name (seat after j).who ≡ control_name (seat seats j).who
-at_controls name k seats after within l j =
-    elim (cases_eq j k) as (λ _. control_name (seat after j).who ≡ control_name (seat seats j).who) [
-      | inl e ↦ subst (λ j. control_name (seat after j).who ≡ control_name (seat seats j).who) (sym e)
-          (ap control_name (l.here within) ∙ retired_control name (seat seats k).who)
-      | inr off ↦ ap control_name (l.there j off)
-    ]
-
-at_one : (name : Name) (k : ℕ) (seats after : List Seat) → k < length seats → LeftAt name k seats after
-    → StaysWhole seats after
-at_one name k seats after within l = record {
-  long = l.long;
-  first = λ x is. elim (cases_eq 0 k) as (λ _. (seat after 0).who ≡ Configuring x) [
-    | inl e ↦ subst (λ j. (seat seats j).who ≡ Configuring x → (seat after j).who ≡ Configuring x) (sym e)
-        (λ is. l.here within ∙ retired_first name (seat seats k).who x is) is
-    | inr off ↦ l.there 0 off ∙ is
-  ];
-  controls = at_controls name k seats after within l;
-  room = λ r j c e. subst (λ m. m < 65535) (sym (l.posts j)) (r j c (sym (at_controls name k seats after within l j) ∙ e));
-  named = still_named seats after l.names (at_controls name k seats after within l);
-}
-
-pub whole_both : (a b c : List Seat) → StaysWhole a b → StaysWhole b c → StaysWhole a c
-whole_both a b c h k = record {
-  long = k.long;
-  first = λ x is. k.first x (h.first x is);
-  controls = λ j. k.controls j ∙ h.controls j;
-  room = λ r. k.room (h.room r);
-  named = λ d e. k.named d (h.named d e);
-}
-
-pub all_left : (name : Name) (cs : List Name) (seats : List Seat) → AreLong seats → AreLeft seats name cs
-    → StaysWhole seats (left_all name cs seats)
-all_left name [] seats long left = record { long = long; first = λ x is. is; controls = λ k. refl; room = λ r. r; named = λ c h. h }
-all_left name (c ∷ cs) seats long left =
-    let agent = left.each.0 in
-    let within = named_within seats c agent.node agent.is in
-    let l = left_from name agent.node seats long within in
-    let between = left_at name (seat_named seats c) seats in
-    let one : StaysWhole seats between =
-    subst (λ o. StaysWhole seats (left_at name o seats)) (sym agent.is)
-    (at_one name agent.node seats (left_at name (Some agent.node) seats) within l) in
-    let next = next_left name c cs seats long left in
-    whole_both seats between (left_all name cs between) one (all_left name cs between next.0 next.1)
 
 -- ---- all of it
 first_reseated : (name : Name) (new seats : List Seat) (x : Checked) → (seat seats 0).who ≡ Configuring x
@@ -264,15 +163,6 @@ first_reseated name new (n ∷ ss) x is =
     not_agent : Configuration ≡ Agent → ⊥
     not_agent e = cc
 
-first_came : (o : Option Node) (seats : List Seat) (x : Checked) → 0 < length seats → (seat seats 0).who ≡ Configuring x
-    → (seat (came o seats) 0).who ≡ Configuring x
-first_came None seats x some is = is
-first_came (Some n) seats x some is =
-    let s = seat seats 0 in
-    ap (λ (m : Seat). m.who) (get_or-map (came_seat n) seats 0 nobody nobody some
-    ∙ ap (λ w. cond (is_listed_who n w) (joined (id_of n) s) s) is)
-    ∙ is
-
 pub some_first : (seats : List Seat) (x : Checked) → (seat seats 0).who ≡ Configuring x → 0 < length seats
 some_first [] x is = cc
 some_first (n ∷ ss) x is = omega arith
@@ -284,42 +174,6 @@ room_reseated t name o seats behind room k c e =
     let q = is_controlling seats k c before in
     subst (λ (n : Seat). length n.posts < 65535) (sym (reseated_there name (seats_of t o) seats behind k q.0 q.1))
     (room k c before)
-
--- ---- it comes
-came_name : (n : Node) (s : Seat) → name_of (came_seat n s).who ≡ name_of s.who
-came_name n s = by_who s.who refl
-  where
-    by_who : (w : Who) → s.who ≡ w → name_of (cond (is_listed_who n w) (joined_by w (id_of n) s) s).who ≡ name_of w
-    by_who (Configuring x) e = ap name_of e
-    by_who (Forwarding plan) e = ap name_of e
-    by_who (Controlling c) e =
-        elim (is_listed c.me.name n) as (λ b. name_of (cond b (joined_by (Controlling c) (id_of n) s) s).who ≡ c.me.name) [
-          | true ↦ refl
-          | false ↦ ap name_of e
-        ]
-
-came_control : (n : Node) (s : Seat) → control_name (came_seat n s).who ≡ control_name s.who
-came_control n s = by_who s.who refl
-  where
-    by_who : (w : Who) → s.who ≡ w → control_name (cond (is_listed_who n w) (joined_by w (id_of n) s) s).who ≡ control_name w
-    by_who (Configuring x) e = ap control_name e
-    by_who (Forwarding plan) e = ap control_name e
-    by_who (Controlling c) e =
-        elim (is_listed c.me.name n) as (λ b. control_name (cond b (joined_by (Controlling c) (id_of n) s) s).who ≡ Some c.me.name) [
-          | true ↦ refl
-          | false ↦ ap control_name e
-        ]
-
-came_names : (n : Node) (seats : List Seat)
-    → map (λ (n : Seat). name_of n.who) (map (came_seat n) seats) ≡ map (λ (n : Seat). name_of n.who) seats
-came_names n [] = refl
-came_names n (s ∷ seats) = λ i. came_name n s i ∷ came_names n seats i
-
-came_named : (o : Option Node) (seats : List Seat) (c : Name) → IsControlNode seats c → IsControlNode (came o seats) c
-came_named None seats c h = h
-came_named (Some n) seats c h =
-    still_named seats (map (came_seat n) seats) (came_names n seats)
-    (λ k. ap (λ (s : Seat). control_name s.who) (at_map (came_seat n) seats k nobody) ∙ came_control n (seat seats k)) c h
 
 -- ---- passes
 pub pass_keeps : (seats : List Seat) (k : ℕ) (n : Seat) → AreLong seats → k < length seats → Passes (seat seats k) n
@@ -388,60 +242,73 @@ pub pass_control : (seats : List Seat) (c : Name) (k : ℕ) → IsControlNode se
     → (d : Controls) × ((seat seats k).who ≡ Controlling d)
 pass_control seats c k h is = is_controlling seats k c (h k is)
 
+-- ---- what each of its parts asks
+module _ (t : Topology) (m : Move) (seats : List Seat) (long : AreLong seats) (can : CanMove t m seats) where
+  abbrev new : List Seat
+  new = seats_of t m.now
+
+  abbrev pub with_seats : List Seat
+  with_seats = reseated m.name new seats
+
+  -- which control nodes there are
+  same_controls : (k : ℕ) → control_name (seat with_seats k).who ≡ control_name (seat seats k).who
+  same_controls = reseated_controls t m.name m.now seats can.agents
+
+  pub move_controls : HasControls t with_seats
+  move_controls k = same_controls k ∙ can.controls k
+
+  pub move_room : HasRoom with_seats
+  move_room = room_reseated t m.name m.now seats can.agents can.room
+
+  pub move_found : AreFound with_seats
+  move_found k c is =
+      let was = sym (same_controls k) ∙ is in
+      let q = is_controlling seats k c was in
+      found_still (λ (n : Seat). same_name (name_of n.who) c) m.name new seats can.agents 0 k k q.0 q.1 (omega arith)
+      (can.found k c was)
+
+  pub move_leaves : (k : ℕ) → CanLeave m.name (seat with_seats k)
+  move_leaves k c who =
+      let q = is_controlling seats k c.me.name (sym (same_controls k) ∙ ap control_name who) in
+      subst (CanLeave m.name) (sym (reseated_there m.name new seats can.agents k q.0 q.1)) (can.leaves k) c who
+
+  -- before passes
+  abbrev before : List Seat
+  before = before_passes t m seats
+
+  before_at : (k : ℕ) → seat before k ≡ resettled_at m.name m.now (seat with_seats k)
+  before_at k = at_map (resettled_at m.name m.now) with_seats k nobody
+
+  pub before_long : AreLong before
+  before_long k below =
+      subst IsLong (sym (before_at k))
+      (long_at m.name m.now (seat with_seats k) (reseated_long t m.name m.now seats long k
+      (subst (λ n. k < n) (length-map with_seats (resettled_at m.name m.now)) below)))
+
+  pub before_first : (x : Checked) → (seat seats 0).who ≡ Configuring x → (seat before 0).who ≡ Configuring x
+  before_first x is =
+      ap (λ (n : Seat). n.who) (before_at 0)
+      ∙ first_at m.name m.now (seat with_seats 0) x (first_reseated m.name new seats x is)
+
+  named_before : (c : Name) → HasControl seats c → IsControlNode before c
+  named_before c (k, is) i found =
+      let there : control_name (seat with_seats k).who ≡ Some c = same_controls k ∙ is in
+      let same : i ≡ k =
+      same_Some i k (sym found ∙ named_by_names before with_seats c (same_names m.name m.now with_seats) ∙ move_found k c there) in
+      ap (λ j. control_name (seat before j).who) same ∙ ap (λ (n : Seat). control_name n.who) (before_at k)
+      ∙ same_control_at m.name m.now (seat with_seats k) ∙ there
+
+  pub before_controls : All (IsControlNode before) m.left
+  before_controls = λ k d below. named_before (get_or m.left k d) (can.left k d below)
+
 -- a move keeps the configuration node where it is, and each node has an end for each of its sessions
 pub moved_first : (t : Topology) (m : Move) (seats after : List Seat) (x : Checked) → AreLong seats → CanMove t m seats
     → (seat seats 0).who ≡ Configuring x → Moves t m seats after
     → AreLong after × ((seat after 0).who ≡ Configuring x)
 moved_first t m seats after x long can is h =
-    let r = reseated m.name (seats_of t m.now) seats in
-    let left = left_all m.name m.left r in
-    let before = came m.now left in
-    let whole = all_left m.name m.left r (reseated_long t m.name m.now seats long)
-    (left_reseated m.name (seats_of t m.now) seats m.left can.agents can.left) in
-    let first = whole.first x (first_reseated m.name (seats_of t m.now) seats x is) in
-    let stays = all_alike m.left before after (came_long m.now left whole.long) h in (
-      stays.long,
-      same_who before after stays.alike 0 ∙ first_came m.now left x (some_first left x first) first,
-    )
-
--- ---- what each of its parts asks
-each_control : (seats : List Seat) (name : Name) (cs : List Name) → AllByRecursion (HasAgent seats name) cs → (k : ℕ) (d : Name)
-    → k < length cs → IsControlNode seats (get_or cs k d)
-each_control seats name [] all k d below = absurd (omega (arith, below))
-each_control seats name (c ∷ cs) all zero d below = λ j is.
-    let h = all.0 in
-    let same : h.node ≡ j = same_Some h.node j (sym h.is ∙ is) in
-    let who = subst (λ k. (seat seats k).who ≡ Controlling h.controls) same h.who in
-    ap control_name who ∙ ap Some (sym (ap name_of who) ∙ named_so seats c j is)
-each_control seats name (c ∷ cs) all (suc k) d below = each_control seats name cs all.1 k d (omega (arith, below))
-
-module _ (t : Topology) (m : Move) (seats : List Seat) (long : AreLong seats) (can : CanMove t m seats) where
-  abbrev pub with_seats : List Seat
-  with_seats = reseated m.name (seats_of t m.now) seats
-
-  pub move_long : AreLong with_seats
-  move_long = reseated_long t m.name m.now seats long
-
-  pub move_left : AreLeft with_seats m.name m.left
-  move_left = left_reseated m.name (seats_of t m.now) seats m.left can.agents can.left
-
-  stays : StaysWhole with_seats (left_all m.name m.left with_seats)
-  stays = all_left m.name m.left with_seats move_long move_left
-
-  pub move_controls : HasControls t (left_all m.name m.left with_seats)
-  move_controls k = stays.controls k ∙ reseated_controls t m.name m.now seats can.agents k ∙ can.controls k
-
-  pub move_room : HasRoom (left_all m.name m.left with_seats)
-  move_room = stays.room (room_reseated t m.name m.now seats can.agents can.room)
-
-  -- before passes
-  pub before_long : AreLong (before_passes t m seats)
-  before_long = came_long m.now (left_all m.name m.left with_seats) stays.long
-
-  pub before_controls : All (IsControlNode (before_passes t m seats)) m.left
-  before_controls = λ k d below.
-      came_named m.now (left_all m.name m.left with_seats) (get_or m.left k d)
-      (stays.named (get_or m.left k d) (each_control with_seats m.name m.left move_left.each k d below))
+    let before = before_passes t m seats in
+    let stays = all_alike m.left before after (before_long t m seats long can) h in
+    (stays.long, same_who before after stays.alike 0 ∙ before_first t m seats long can x is)
 
 pub comes_listed : (t : Topology) (o : Option Node) → ((n : Node) → o ≡ Some n → CanCome t n)
     → IfSome o (λ n. All (Contains (controller_names t)) n.controllers)

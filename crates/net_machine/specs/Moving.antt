@@ -1,9 +1,8 @@
 -- What is asked of a network in which a compute node moves: that what goes is there, and what comes has its place.
-use Rattle.std.specs.Prelude.{◌≡◌, ◌≢◌, ◌≤◌, ◌<◌, ◌+◌, ℕ, zero, suc, List, [], ◌∷◌, length, slice_get}
-use Rattle.std.specs.Prelude.{if◌then◌else◌}
+use Rattle.std.specs.Prelude.{◌≡◌, ◌≤◌, ◌<◌, ℕ, zero, suc, List, [], length, slice_get}
 use Rattle.std.specs.declared.option.Option.{Option}
 use Rattle.std.specs.declared.option.Option.TheVariants.{Some, None}
-use Rattle.std.specs.List.{AllByRecursion, All, Contains}
+use Rattle.std.specs.List.{All, Contains}
 use Rattle.std.specs.Option.{option_map}
 use Rattle.ov_types.specs.declared.rows.NodeId.{NodeId}
 use Rattle.config_check.specs.Checked.{Checked}
@@ -14,27 +13,30 @@ use Rattle.config_types.specs.declared.event.Event.{Event}
 use Rattle.config_types.specs.declared.event.Event.TheVariants as event
 use Rattle.config_types.specs.declared.topology.Node.{Node}
 use Rattle.config_types.specs.declared.topology.Topology.{Topology}
-use Rattle.running_nodes.specs.MachineModel.Setup.{Move, Name, id_of, moves}
+use Rattle.running_nodes.specs.MachineModel.Setup.{Move, Name, moves}
 use Rattle.running_nodes.specs.MachineModel.Session.{Agent}
 use Rattle.running_nodes.specs.Controls.{Controls, first_agent}
-use Rattle.running_nodes.specs.Moving.{is_listed_who, joined}
+use Rattle.running_nodes.specs.Moving.{vacated}
 use Rattle.running_nodes.specs.Seats.{Who, Configuring, Controlling, Forwarding, Seat, other, role_of, seat, seat_named}
-use Rattle.running_nodes.specs.Seats.{session_with}
+use Rattle.running_nodes.specs.Steps.{with_seat}
 use Rattle.running_nodes.specs.declared.place.SessionPlace.{SessionPlace}
 use Rattle.net_machine.specs.declared.editing.Moved.{Moved}
 use Rattle.net_machine.specs.declared.editing.Moved.TheVariants.{Yes, No}
 
 -- ---- an agent that goes
--- the control node of a name has a session with it, and no other
-pub record HasAgent (seats : List Seat) (agent control : Name) : Type 0 where
+-- a control node has one session with it at most, which is behind those with other control nodes
+abbrev pub CanLeave : Name → Seat → Type 0
+CanLeave agent n =
+    (c : Controls) → n.who ≡ Controlling c → (i : ℕ) → other n i ≡ Some agent
+    → (first_agent c ≤ i) × ((j : ℕ) → other n j ≡ Some agent → j ≡ i)
+
+-- from the control node of a name
+pub record GoesFrom (seats : List Seat) (agent control : Name) : Type 0 where
   pub node : ℕ
   pub is : seat_named seats control ≡ Some node
   pub controls : Controls
   pub who : (seat seats node).who ≡ Controlling controls
-  pub session : ℕ
-  pub found : session_with (seat seats node) agent ≡ Some session
-  pub behind : first_agent controls ≤ session
-  pub alone : (i : ℕ) → other (seat seats node) i ≡ Some agent → i ≡ session
+  pub leaves : CanLeave agent (seat seats node)
 
 -- the end of the control node's session with an agent
 pub record IsAgentPlace (seats : List Seat) (agent : Name) (p : SessionPlace) : Type 0 where
@@ -45,14 +47,10 @@ pub record IsAgentPlace (seats : List Seat) (agent : Name) (p : SessionPlace) : 
   pub there : other (seat seats p.node) p.session ≡ Some agent
   pub alone : (i : ℕ) → other (seat seats p.node) i ≡ Some agent → i ≡ p.session
 
-abbrev pub Differ : List Name → Type 0
-Differ [] = Unit {0}
-Differ (c ∷ cs) = AllByRecursion (λ d. c ≢ d) cs × Differ cs
-
--- an agent has a session with each of some control nodes, which are not the same
-pub record AreLeft (seats : List Seat) (agent : Name) (controls : List Name) : Type 0 where
-  pub each : AllByRecursion (HasAgent seats agent) controls
-  pub differ : Differ controls
+-- what it leaves of the seats
+abbrev pub left_at : Name → Option ℕ → List Seat → List Seat
+left_at agent None seats = seats
+left_at agent (Some k) seats = with_seat k (vacated agent (seat seats k)) seats
 
 -- ---- which seats are those of control nodes
 abbrev pub control_name : Who → Option Name
@@ -63,6 +61,14 @@ control_name (Forwarding plan) = None
 -- the node of a name is a control node, where it is there
 abbrev pub IsControlNode : List Seat → Name → Type 0
 IsControlNode seats c = (k : ℕ) → seat_named seats c ≡ Some k → control_name (seat seats k).who ≡ Some c
+
+-- a control node of this name is there
+abbrev pub HasControl : List Seat → Name → Type 0
+HasControl seats c = (k : ℕ) × (control_name (seat seats k).who ≡ Some c)
+
+-- each control node is found by its name
+abbrev pub AreFound : List Seat → Type 0
+AreFound seats = (k : ℕ) (c : Name) → control_name (seat seats k).who ≡ Some c → seat_named seats c ≡ Some k
 
 abbrev pub control_at : Topology → ℕ → Option Name
 control_at t zero = None
@@ -88,13 +94,11 @@ pub record CanCome (t : Topology) (n : Node) : Type 0 where
   pub few : length n.controllers ≤ 2
   pub listed : All (Contains (controller_names t)) n.controllers
 
--- what it makes of one seat
-abbrev pub came_seat : Node → Seat → Seat
-came_seat n s = if is_listed_who n s.who then joined (id_of n) s else s
-
 -- ---- a move
 pub record CanMove (t : Topology) (m : Move) (seats : List Seat) : Type 0 where
-  pub left : AreLeft seats m.name m.left
+  pub left : All (HasControl seats) m.left
+  pub leaves : (k : ℕ) → CanLeave m.name (seat seats k)
+  pub found : AreFound seats
   pub controls : HasControls t seats
   pub agents : HasAgentsBehind seats
   pub few : length t.controllers ≤ 8

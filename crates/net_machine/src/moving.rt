@@ -1,16 +1,16 @@
 //! Compute nodes that come, go, or list other control nodes than before.
-ghost use Rattle.std.specs.Prelude.{◌≡◌, ◌<◌, ◌≤◌, ◌+◌, length, option_copied, IfOk, Some};
+ghost use Rattle.std.specs.Prelude.{◌≡◌, ◌<◌, ◌≤◌, ◌+◌, ℕ, length, map, option_copied, IfOk, Some};
 ghost use Rattle.std.specs.List.{All};
 ghost use Rattle.config_check.specs.Checked.{Checked};
 ghost use Rattle.config_check.specs.Finding.{node_named};
 ghost use Rattle.running_nodes.specs.MachineModel.Setup.{listed_by, stands};
 ghost use Rattle.running_nodes.specs.Controls.{Controls};
-ghost use Rattle.running_nodes.specs.Moving.{Moves, PassesAll, PassesAt, before_passes, came, left_all, left_at};
+ghost use Rattle.running_nodes.specs.Moving.{Moves, PassesAll, PassesAt, came_to, resettled_at};
 ghost use Rattle.running_nodes.specs.Seats as seats_of;
 ghost use Rattle.running_nodes.specs.Seats.{Configuring, Controlling, seat};
 ghost use Rattle.running_nodes.specs.Steps.{with_seat};
-ghost use Rattle.net_machine.specs.Moving.{AreLeft, CanMove, HasAgent, HasControls, HasRoom, IsControlNode};
-ghost use Rattle.net_machine.specs.Moving.{came_seat, control_name};
+ghost use Rattle.net_machine.specs.Moving.{AreFound, CanLeave, CanMove, GoesFrom, HasControls, HasRoom, IsControlNode};
+ghost use Rattle.net_machine.specs.Moving.{control_name, left_at};
 ghost use Rattle.net_machine.specs.Seating.{AreLong};
 
 use crate::clear::clear_node;
@@ -62,9 +62,9 @@ fn copied(alloc: Global, names: &[Name]) -> Result<Vec<Name>, NoMemory>
     Ok(copy)
 }
 
-/// An agent goes from the control node of this name, which tells nobody yet.
+/// An agent goes from the control node of this name, where it has a session with it. Nobody is told yet.
 fn leave(nodes: &mut Nodes, name: &Name, control: &Name) -> Result<(), NoMemory>
-    requires agent { HasAgent nodes.old.seats name.now control.now }
+    requires agent { GoesFrom nodes.old.seats name.now control.now }
     ensures left { IfOk result (λ _. nodes.new.seats
         ≡ left_at name.now (seats_of.seat_named nodes.old.seats control.now) nodes.old.seats) }
     ensures failed { IfOk result (λ _. nodes.new.failed ≡ nodes.old.failed) }
@@ -75,25 +75,12 @@ fn leave(nodes: &mut Nodes, name: &Name, control: &Name) -> Result<(), NoMemory>
     }
 }
 
-/// An agent goes from the control nodes of some names.
-fn leave_all(nodes: &mut Nodes, name: &Name, controls: &[Name]) -> Result<(), NoMemory>
-    requires long { AreLong nodes.old.seats }
-    requires left { AreLeft nodes.old.seats name.now controls.now }
-    ensures left { IfOk result (λ _. nodes.new.seats ≡ left_all name.now controls.now nodes.old.seats) }
-    ensures failed { IfOk result (λ _. nodes.new.failed ≡ nodes.old.failed) }
-{
-    for control in controls {
-        leave(nodes, name, control)?;
-    }
-    Ok(())
-}
-
 /// An agent comes to the control node at a seat, where it lists it.
 fn come_at(nodes: &mut Nodes, index: u16, controller: &NodeId, node: &Node) -> Result<(), NoMemory>
     requires control { control_name (seat nodes.old.seats index).who ≡ Some controller.now.name }
     requires room { length (seat nodes.old.seats index).posts < 65535 }
     ensures comes { IfOk result (λ _. nodes.new.seats
-        ≡ with_seat index (came_seat node.now (seat nodes.old.seats index)) nodes.old.seats) }
+        ≡ with_seat index (came_to (Some node.now) (seat nodes.old.seats index)) nodes.old.seats) }
     ensures failed { IfOk result (λ _. nodes.new.failed ≡ nodes.old.failed) }
 {
     if lists(node, controller) {
@@ -106,6 +93,45 @@ fn come_at(nodes: &mut Nodes, index: u16, controller: &NodeId, node: &Node) -> R
     Ok(())
 }
 
+/// What is now of a compute node comes to the control node at a seat, where it is there and lists it.
+fn come_now(
+    nodes: &mut Nodes,
+    index: u16,
+    controller: &NodeId,
+    now: Option<&Node>,
+) -> Result<(), NoMemory>
+    requires control { control_name (seat nodes.old.seats index).who ≡ Some controller.now.name }
+    requires room { length (seat nodes.old.seats index).posts < 65535 }
+    ensures comes { IfOk result (λ _. nodes.new.seats
+        ≡ with_seat index (came_to (option_copied now.entry) (seat nodes.old.seats index)) nodes.old.seats) }
+    ensures failed { IfOk result (λ _. nodes.new.failed ≡ nodes.old.failed) }
+{
+    match now {
+        None => Ok(()),
+        Some(node) => come_at(nodes, index, controller, node),
+    }
+}
+
+/// A compute node goes from the control node at a seat, and what is now of it comes to it where it lists it.
+fn resettle_at(
+    nodes: &mut Nodes,
+    index: u16,
+    controller: &NodeId,
+    name: &Name,
+    now: Option<&Node>,
+) -> Result<(), NoMemory>
+    requires control { control_name (seat nodes.old.seats index).who ≡ Some controller.now.name }
+    requires found { seats_of.seat_named nodes.old.seats controller.now.name ≡ Some index }
+    requires leaves { CanLeave name.now (seat nodes.old.seats index) }
+    requires room { length (seat nodes.old.seats index).posts < 65535 }
+    ensures resettled { IfOk result (λ _. nodes.new.seats
+        ≡ with_seat index (resettled_at name.now (option_copied now.entry) (seat nodes.old.seats index)) nodes.old.seats) }
+    ensures failed { IfOk result (λ _. nodes.new.failed ≡ nodes.old.failed) }
+{
+    leave(nodes, name, &controller.name)?;
+    come_now(nodes, index, controller, now)
+}
+
 /// The number of the seat of a control node, by its place in a topology.
 fn control_seat(index: usize) -> u16
     requires { index < 8 }
@@ -114,33 +140,27 @@ fn control_seat(index: usize) -> u16
     index as u16 + 1
 }
 
-/// An agent comes to the control nodes that it lists.
-fn come(nodes: &mut Nodes, topology: &Topology, node: &Node) -> Result<(), NoMemory>
+/// A compute node goes from all control nodes of a topology, and what is now of it comes to those that it lists.
+fn resettle_all(
+    nodes: &mut Nodes,
+    topology: &Topology,
+    name: &Name,
+    now: Option<&Node>,
+) -> Result<(), NoMemory>
     requires ordered { HasControls topology.now nodes.old.seats }
     requires few { length topology.now.controllers ≤ 8 }
+    requires found { AreFound nodes.old.seats }
+    requires leaves { (k : ℕ) → CanLeave name.now (seat nodes.old.seats k) }
     requires room { HasRoom nodes.old.seats }
-    ensures comes { IfOk result (λ _. nodes.new.seats ≡ came (Some node.now) nodes.old.seats) }
+    ensures resettled { IfOk result (λ _. nodes.new.seats
+        ≡ map (resettled_at name.now (option_copied now.entry)) nodes.old.seats) }
     ensures failed { IfOk result (λ _. nodes.new.failed ≡ nodes.old.failed) }
 {
     let controllers = topology.controllers.as_slice();
     for index in 0..controllers.len() {
-        come_at(nodes, control_seat(index), &controllers[index], node)?;
+        resettle_at(nodes, control_seat(index), &controllers[index], name, now)?;
     }
     Ok(())
-}
-
-/// What is now of a compute node comes, where it is there.
-fn come_now(nodes: &mut Nodes, topology: &Topology, now: Option<&Node>) -> Result<(), NoMemory>
-    requires ordered { HasControls topology.now nodes.old.seats }
-    requires few { length topology.now.controllers ≤ 8 }
-    requires room { HasRoom nodes.old.seats }
-    ensures comes { IfOk result (λ _. nodes.new.seats ≡ came (option_copied now.entry) nodes.old.seats) }
-    ensures failed { IfOk result (λ _. nodes.new.failed ≡ nodes.old.failed) }
-{
-    match now {
-        None => Ok(()),
-        Some(node) => come(nodes, topology, node),
-    }
 }
 
 /// The control node of a seat makes its pass. The sessions of which it closed its end go down.
@@ -183,29 +203,8 @@ fn pass_all(nodes: &mut Nodes, controls: &[Name]) -> Result<(), NoMemory>
     Ok(())
 }
 
-/// A compute node that listed these control nodes is moved, in a topology: its seat is another, it goes from them, and it
-/// comes to those that it lists. None of them makes its pass.
-fn resettle(
-    alloc: Global,
-    nodes: &mut Nodes,
-    topology: &Topology,
-    name: &Name,
-    left: &[Name],
-    now: Option<&Node>,
-) -> Result<(), NoMemory>
-    requires long { AreLong nodes.old.seats }
-    requires can { CanMove topology.now
-        (record { name = name.now; left = left.now; now = option_copied now }) nodes.old.seats }
-    ensures moved { IfOk result (λ _. nodes.new.seats ≡ before_passes topology.now
-        (record { name = name.now; left = left.now; now = option_copied now.entry }) nodes.old.seats) }
-    ensures failed { IfOk result (λ _. nodes.new.failed ≡ nodes.old.failed) }
-{
-    nodes.reseat(alloc, topology, *name, now)?;
-    leave_all(nodes, name, left)?;
-    come_now(nodes, topology, now)
-}
-
-/// A compute node that listed these control nodes moves, in a topology, and then each of them makes its pass.
+/// A compute node that listed these control nodes moves, in a topology: its seat is another, it goes from all control
+/// nodes and comes to those that it lists, and then each of the former makes its pass.
 fn move_from(
     alloc: Global,
     nodes: &mut Nodes,
@@ -221,7 +220,8 @@ fn move_from(
         (record { name = name.now; left = left.now; now = option_copied now.entry }) nodes.old.seats nodes.new.seats) }
     ensures failed { IfOk result (λ _. nodes.new.failed ≡ nodes.old.failed) }
 {
-    resettle(alloc, nodes, topology, name, left, now)?;
+    nodes.reseat(alloc, topology, *name, now)?;
+    resettle_all(nodes, topology, name, now)?;
     pass_all(nodes, left)
 }
 

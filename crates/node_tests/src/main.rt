@@ -5,6 +5,7 @@
 mod agents;
 mod answers;
 mod cases;
+mod changed;
 mod changes;
 mod configs;
 mod controls;

@@ -1,6 +1,7 @@
 //! The tables of a control node, as cases take them.
 
 use crate::cases::is_wanted;
+use crate::changed::tell_changed;
 use crate::changes::change;
 use crate::questions::ask;
 use case_lines::{CaseFault, Cases, Tally, both, count_all, number};
@@ -9,7 +10,7 @@ use ov_types::NoMemory;
 use std::alloc::Global;
 use vpn_tables::VpnTables;
 
-/// The tables of a case. A line is a question with what is wanted of it behind `=>`, or a change.
+/// The tables of a case. A line is a question with what is wanted of it behind `=>`, or a change; behind `changed` it is both.
 #[derive(Drop)]
 struct Tables {
     tables: VpnTables,
@@ -19,7 +20,10 @@ impl Cases for Tables {
     fn holds(&mut self, alloc: Global, line: &str, came: &mut TextOut) -> Result<bool, CaseFault> {
         match line.split_once(" => ") {
             Some((question, wanted)) => {
-                ask(alloc, &self.tables, question, came)?;
+                match question.strip_prefix("changed ") {
+                    Some(change) => tell_changed(alloc, &mut self.tables, change, came)?,
+                    None => ask(alloc, &self.tables, question, came)?,
+                }
                 Ok(is_wanted(wanted, came))
             }
             None => {

@@ -3,6 +3,7 @@ use Rattle.std.specs.List.{AllByRecursion, AllZip, filter}
 use Rattle.std.specs.Prelude.{Bool, List, cond, drop, false, length, map, slice_index_or, suc, true, zero, ℕ, [], ◌++◌, ◌+◌, ◌<◌, ◌∷◌, ◌≡◌}
 use Rattle.std.specs.declared.option.Option.TheVariants.{None, Some}
 use Rattle.std.proofs.Common.{ap, arith, inl, inr, refl, subst, sym, ◌∙◌}
+use Rattle.std.proofs.lemmas.Bool.{true≢false}
 use Rattle.std.proofs.lemmas.Option.{same_Some}
 use Rattle.ov_types.specs.First.{same_name}
 use Rattle.node_model.specs.Members.{Member}
@@ -90,6 +91,16 @@ module _ {A : Type 0} (p : A → Bool) where
         | false ↦ λ _ e. let q = index_found (suc i) xs k d e in (suc q.0, omega (arith, q.1), omega (arith, q.2), q.3)
       ] refl e
 
+  -- where none is found there is none
+  pub index_none : (i : ℕ) (xs : List A) → index_from i p xs ≡ None → (a : A) → Member a xs → p a ≡ true → ⊥
+  index_none i [] e a m is = m
+  index_none i (b ∷ xs) e a m is =
+      elim (p b) as (λ c. p b ≡ c → cond c (Some i) (index_from (suc i) p xs) ≡ None → ⊥) [
+        | true ↦ λ _ e. some_none i e
+        | false ↦ λ off e. elim m as (λ _. ⊥) [ inl same ↦ true≢false (sym is ∙ ap p (sym same) ∙ off) | inr m ↦ index_none (suc i) xs e a m is ]
+      ] refl e
+
+-- ---- names that are apart
 -- each is found at its own place
 pub index_apart : (i : ℕ) (ns : List Name) (k : ℕ) (d : Name) → Apart ns → k < length ns → index_from i (λ m. same_name m (slice_index_or ns k d)) ns ≡ Some (i + k)
 index_apart i [] k d a h = absurd (omega (arith, h))

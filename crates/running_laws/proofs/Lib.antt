@@ -71,14 +71,13 @@ pub mod Delivered
 pub mod Resettled
 pub mod Anew
 pub mod Reconfigured
-pub mod Left
+pub mod MovedFrom
 pub mod MovedSeat
 pub mod MovedNodes
 pub mod MovedSessions
 pub mod MovedRight
 pub mod Passes
 pub mod MovedBase
-pub mod MovedFrom
 pub mod Moved
 pub mod Unmoved
 pub mod Edited

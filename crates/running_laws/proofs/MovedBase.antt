@@ -1,6 +1,6 @@
 -- A compute node moves: with its sessions replaced, and before any control node made its pass, the network is that of the
 -- seats from which it has gone and to which it has come.
-use Rattle.std.specs.Prelude.{◌≡◌, ◌≢◌, ◌⊎◌, ◌<◌, ℕ, zero, suc, List, [], ◌∷◌, ◌++◌, ◌&&◌, map, length, Bool, true, false, cond, is_some}
+use Rattle.std.specs.Prelude.{◌≡◌, ◌≢◌, ◌⊎◌, ◌<◌, ℕ, zero, suc, List, [], ◌∷◌, ◌++◌, ◌&&◌, map, length, Bool, true, false, cond}
 use Rattle.std.specs.Prelude.{option_and_then}
 use Rattle.std.specs.List.{slice_index_or}
 use Rattle.std.specs.Option.{option_map, unwrap_or}
@@ -18,11 +18,10 @@ use Rattle.config_types.specs.declared.topology.Node.{Node}
 use Rattle.config_types.specs.declared.topology.Topology.{Topology}
 use Rattle.schedule_script.specs.ConfigCheck.Checked.{Checked}
 use Rattle.schedule_script.specs.ConfigCheck.Edits.{edit_fault}
-use Rattle.schedule_script.specs.ConfigCheck.Finding.{node_named}
 use Rattle.schedule_script.specs.ConfigCheck.Rules.{controller_names, node_names}
 use Rattle.schedule_script.proofs.ConfigCheck.Validity.{valid_iff}
 use Rattle.node_model.specs.Members.{Member}
-use Rattle.node_model.proofs.Members.{from_map, in_either, in_map, in_right}
+use Rattle.node_model.proofs.Members.{from_map, in_either, in_map}
 use Rattle.node_model.specs.Step.{Post}
 use Rattle.machine_laws.specs.MachineModel.Setup.{Move, Name, Setup, agents_in, agents_of, came_at, checked, moves, renumbered, without_agent}
 use Rattle.machine_laws.specs.MachineModel.Session.{Message, Open, Keepalive, Hello, Carries, SessionEnd, Session, Agent, is_peering}
@@ -30,15 +29,14 @@ use Rattle.machine_laws.specs.MachineModel.Network.{AreNamed, MachineState, brou
 use Rattle.machine_laws.specs.MachineModel.Steps.{session_of}
 use Rattle.machine_laws.specs.MachineModel.Events.{Edits}
 use Rattle.machine_laws.specs.MachineModel.Moments.{Each, EditIsValid, NumbersFit}
-use Rattle.machine_laws.proofs.MachineModel.Changing.{MoverIs, Renews, found_member, found_named, renews}
+use Rattle.machine_laws.proofs.MachineModel.Changing.{MoverIs, Renews, found_member, renews}
 use Rattle.machine_laws.proofs.MachineModel.Distinct.{Apart, apart_of, apart_right, same_false}
 use Rattle.machine_laws.proofs.MachineModel.NetworkFact.{found}
 use Rattle.machine_laws.specs.Headline.{IsOfForm}
 use Rattle.machine_laws.proofs.Names.{is_named}
 use Rattle.running_nodes.specs.Seats.{Who, Configuring, Controlling, Forwarding, Seat, agent_plan, control_plan, far_of, name_of, nobody}
 use Rattle.running_nodes.specs.Seats.{other, others_of, place_at, place_of, role_of, seat, session_with, whos}
-use Rattle.running_nodes.specs.Moving.{is_agent_named, reseated, seats_of}
-use Rattle.running_nodes.specs.Steps.{fresh_seat}
+use Rattle.running_nodes.specs.Moving.{is_agent_named, reseated, resettled_at, seats_of}
 use Rattle.running_nodes.specs.Stands.{IsEnd, IsLong, IsVacant, KeepsPart, Seats, octets_of}
 use Rattle.running_nodes.specs.declared.place.SessionPlace.{SessionPlace}
 use Rattle.running_laws.specs.Moments.{IsMoment}
@@ -47,12 +45,14 @@ use Rattle.running_laws.proofs.FirstPlaces.{at_of_member, member_of_at}
 use Rattle.running_laws.proofs.AtMoments.{moment_right}
 use Rattle.running_laws.proofs.Building.{SameEnd, part_at, part_none, part_of, part_same, seats_by_places}
 use Rattle.running_laws.proofs.Facts.{Facts, IsRight}
-use Rattle.running_laws.proofs.Resettled.{resettled_seat, resettled_seats, resettled, setup_after}
+use Rattle.running_laws.proofs.Resettled.{resettled_seats, resettled, setup_after}
 use Rattle.running_laws.proofs.Lists.{AreFit, EndAt, fit_within, named_by, place_with, seat_elsewhere, seat_here, seats_fit, who_at}
 use Rattle.running_laws.proofs.Members.{is_one_of}
+use Rattle.running_laws.proofs.MovedFrom.{config_off, mates, site_off}
 use Rattle.running_laws.proofs.MovedNodes.{agents_come, who_resettled, resettled_who, moved_who, news, nodes_renoded, renoded}
+use Rattle.running_laws.proofs.Named.{AreNodes, are_nodes}
 use Rattle.running_laws.proofs.MovedRight.{right_resettled}
-use Rattle.running_laws.proofs.MovedSeat.{Fades, fresh_long, fresh_vacant, resettled_fades}
+use Rattle.running_laws.proofs.MovedSeat.{Fades, fresh_nothing, fresh_room, resettled_fades}
 use Rattle.running_laws.proofs.MovedSessions.{IsBare, IsBareFor, bare_turned, brought_own, replaced_bare, replaced_in}
 use Rattle.running_laws.proofs.Started.{HasNothing, taken_nowhere}
 
@@ -143,12 +143,12 @@ in_reseated name new (h ∷ seats) apart n m =
 member_seat : (seats : List Seat) (k : ℕ) → k < length seats → Member (seat seats k) seats
 member_seat seats k lt = member_of_at seats k nobody lt
 
-resettled_at : (name : Name) (now : Option Node) (seats : List Seat) (k : ℕ) → k < length (map (resettled_seat name now) seats)
-    → (k < length seats) × (seat (map (resettled_seat name now) seats) k ≡ resettled_seat name now (seat seats k))
-resettled_at name now [] k lt = absurd (omega (arith, lt))
-resettled_at name now (n ∷ seats) zero lt = (omega arith, refl)
-resettled_at name now (n ∷ seats) (suc k) lt =
-    let q = resettled_at name now seats k (omega (arith, lt)) in
+resettled_place : (name : Name) (now : Option Node) (seats : List Seat) (k : ℕ) → k < length (map (resettled_at name now) seats)
+    → (k < length seats) × (seat (map (resettled_at name now) seats) k ≡ resettled_at name now (seat seats k))
+resettled_place name now [] k lt = absurd (omega (arith, lt))
+resettled_place name now (n ∷ seats) zero lt = (omega arith, refl)
+resettled_place name now (n ∷ seats) (suc k) lt =
+    let q = resettled_place name now seats k (omega (arith, lt)) in
     (let l = q.0 in omega (arith, l), q.1)
 
 -- the first stays the first
@@ -190,11 +190,11 @@ reseat_fades name n g who same f = record {
     nothing_there i v = record { post = v.post; kept = v.kept; link = v.link; breaks = v.breaks; notice = v.notice }
 
 -- ---- names
-pub names_map : {A : Type 0} (f : A → Who) (xs : List A) → map name_of (map f xs) ≡ map (λ a. name_of (f a)) xs
+names_map : {A : Type 0} (f : A → Who) (xs : List A) → map name_of (map f xs) ≡ map (λ a. name_of (f a)) xs
 names_map f [] = refl
 names_map f (x ∷ xs) = ap (λ (ns : List Name). name_of (f x) ∷ ns) (names_map f xs)
 
-pub seat_names : (seats : List Seat) → map (λ (n : Seat). name_of n.who) seats ≡ map name_of (map (λ (n : Seat). n.who) seats)
+seat_names : (seats : List Seat) → map (λ (n : Seat). name_of n.who) seats ≡ map name_of (map (λ (n : Seat). n.who) seats)
 seat_names [] = refl
 seat_names (n ∷ seats) = ap (λ (ns : List Name). name_of n.who ∷ ns) (seat_names seats)
 
@@ -211,7 +211,7 @@ named_of w r =
     let t = w.setup.topology in
     (is_named t w.setup.config r.written.topology ((valid_iff t w.setup.config).0 r.written.valid)).apart
 
-pub names_of_all : (w : MachineState) → IsRight w → Apart (config ∷ controller_names w.setup.topology ++ node_names w.setup.topology)
+names_of_all : (w : MachineState) → IsRight w → Apart (config ∷ controller_names w.setup.topology ++ node_names w.setup.topology)
 names_of_all w r =
     let t = w.setup.topology in
     apart_of (config ∷ controller_names t ++ node_names t) (named_of w r)
@@ -261,32 +261,18 @@ module _ (facts : Facts) (seats : List Seat) (w : MachineState) (moment : IsMome
       let h : MoverIs m.name (Some k) t u = subst (λ o. MoverIs m.name o t u) now renewed.mover.1 in
       ((found_member m.name u.nodes k h.1).0, h.0)
 
-  -- the name is that of a compute node, now or then
-  known : Member m.name (node_names t) ⊎ Member m.name (node_names u)
-  known = by m.now renewed.mover.1
-    where
-      found_there : (o : Option Node) → node_named t m.name ≡ o → is_some o ≡ true → Member m.name (node_names t)
-      found_there None h some = absurd (true≢false (sym some))
-      found_there (Some k) h some = found_named m.name t.nodes k h
+  -- it alone has its name
+  pub nodes_before : AreNodes t
+  nodes_before = are_nodes x right.written.topology right.written.valid
 
-      by : (o : Option Node) → MoverIs m.name o t u → Member m.name (node_names t) ⊎ Member m.name (node_names u)
-      by None h = inl (found_there (node_named t m.name) refl h)
-      by (Some k) h = inr (found_named m.name u.nodes k h.1)
+  pub nodes_then : AreNodes u
+  nodes_then = are_nodes y right_v.written.topology right_v.written.valid
 
-  -- and no other has it
-  pub not_front : (k : Name) → Member k (config ∷ controller_names t) → k ≡ m.name → ⊥
-  not_front k i same = by known
-    where
-      clash : (front ns : List Name) → Apart (front ++ ns) → Member k front → Member m.name ns → ⊥
-      clash [] ns a i j = i
-      clash (f ∷ front) ns a (inl e) j = a.0 m.name (in_right m.name front ns j) (e ∙ same)
-      clash (f ∷ front) ns a (inr i) j = clash front ns a.1 i j
+  config_is_off : config ≢ m.name
+  config_is_off = config_off m.name m.now x u nodes_before nodes_then renewed.controllers renewed.mover.1
 
-      by : Member m.name (node_names t) ⊎ Member m.name (node_names u) → ⊥
-      by (inl j) = clash (config ∷ controller_names t) (node_names t) names i j
-      by (inr j) =
-          clash (config ∷ controller_names u) (node_names u) (names_of_all v right_v)
-          (subst (λ cs. Member k (config ∷ map (λ (c : NodeId). c.name) cs)) (sym renewed.controllers) i) j
+  site_is_off : (d : NodeId) → Member d t.controllers → d.name ≢ m.name
+  site_is_off = site_off m.name m.now x u nodes_before nodes_then renewed.controllers renewed.mover.1
 
   pub nodes_are : u.nodes ≡ renoded m.name (news m.now) t.nodes
   nodes_are = nodes_renoded (checked x) e none (apart_right (controller_names t) (node_names t) names.1) m is
@@ -317,10 +303,12 @@ module _ (facts : Facts) (seats : List Seat) (w : MachineState) (moment : IsMome
       session_back k i (session_with (seat seats k) m.name)
       (sym (ap (place_at seats m.name) (named_by seats (name_at seats p) m.name p found)) ∙ found)
 
-  was_fades : (k : ℕ) → k < length seats → Fades m.name (seat seats k) (resettled_seat m.name m.now (seat seats k))
+  was_fades : (k : ℕ) → k < length seats → Fades m.name (seat seats k) (resettled_at m.name m.now (seat seats k))
   was_fades k lt =
       resettled_fades m.name m.now (λ n now. (now_there n now).1) (seat seats k) (stands.long k lt)
       (λ i h. fit.vacant (record { node = k; session = i }) h) (sole k)
+      (λ i h. mates m.name m.now x u nodes_before nodes_then renewed.controllers renewed.mover.1 i (seat seats k).who
+      (is_one_of seats w stands k lt) h)
 
   -- what a seat comes from: one that was there, or a fresh one
   record Was (n : Seat) : Type 0 where
@@ -338,24 +326,24 @@ module _ (facts : Facts) (seats : List Seat) (w : MachineState) (moment : IsMome
 
   -- of those that were there an agent alone may have its name
   agent_of_name : (who : Who) → Member who (whos x) → name_of who ≡ m.name → (same_role Agent (role_of who) && same_name (name_of who) m.name) ≡ true
-  agent_of_name who (inl same) h = absurd (not_front config (inl refl) (ap name_of same ∙ h))
+  agent_of_name who (inl same) h = absurd (config_is_off (ap name_of same ∙ h))
   agent_of_name who (inr i) h =
       let f : NodeId → Who = λ c. Controlling (control_plan x c) in
       let g : Node → Who = λ n. Forwarding (agent_plan t n) in
       elim (in_either who (map f t.controllers) (map g t.nodes) i) as (λ _. (same_role Agent (role_of who) && same_name (name_of who) m.name) ≡ true) [
         | inl j ↦
             let q = from_map f who t.controllers j in
-            absurd (not_front q.0.name (inr (in_map (λ (c : NodeId). c.name) q.0 t.controllers q.1)) (ap name_of q.2 ∙ h))
+            absurd (site_is_off q.0 q.1 (ap name_of q.2 ∙ h))
         | inr j ↦
             let q = from_map g who t.nodes j in
             ap (λ w. same_role Agent (role_of w) && same_name (name_of w) m.name) (sym q.2)
             ∙ (bytes_decides q.0.name m.name).1 (ap name_of q.2 ∙ h)
       ]
 
-  was_there : (k : ℕ) → k < length seats → is_agent_named m.name (seat seats k) ≡ false → Was (resettled_seat m.name m.now (seat seats k))
+  was_there : (k : ℕ) → k < length seats → is_agent_named m.name (seat seats k) ≡ false → Was (resettled_at m.name m.now (seat seats k))
   was_there k lt off =
       let n = seat seats k in
-      let named : name_of (resettled_seat m.name m.now n).who ≡ name_of n.who =
+      let named : name_of (resettled_at m.name m.now n).who ≡ name_of n.who =
       ap name_of (who_resettled m.name m.now n) ∙ resettled_name m.name m.now n.who in
       record {
         from = k;
@@ -366,19 +354,19 @@ module _ (facts : Facts) (seats : List Seat) (w : MachineState) (moment : IsMome
         apart = λ h. true≢false (sym (agent_of_name n.who (is_one_of seats w stands k lt) (sym named ∙ h)) ∙ off);
       }
 
-  came_here : (now : Option Node) → ((k : Node) → now ≡ Some k → k.name ≡ m.name) → (n : Seat) → Member n (seats_of u now) → Came (resettled_seat m.name now n)
+  came_here : (now : Option Node) → ((k : Node) → now ≡ Some k → k.name ≡ m.name) → (n : Seat) → Member n (seats_of u now) → Came (resettled_at m.name now n)
   came_here None named n i = absurd i
   came_here (Some k) named n (inl same) =
-      subst (λ n. Came (resettled_seat m.name (Some k) n)) same (record {
-        long = fresh_long m.name u k (Some k);
-        vacant = fresh_vacant m.name u k (Some k);
-        name = ap name_of (who_resettled m.name (Some k) (fresh_seat (Forwarding (agent_plan u k)))) ∙ named k refl;
+      subst (λ n. Came (resettled_at m.name (Some k) n)) same (record {
+        long = fresh_room (Forwarding (agent_plan u k));
+        vacant = fresh_nothing (Forwarding (agent_plan u k));
+        name = named k refl;
       })
   came_here (Some k) named n (inr i) = absurd i
 
   -- the configuration node
   abbrev root : Seat
-  root = record (seat (map (resettled_seat m.name m.now) r) 0) { who = Configuring (checked y) }
+  root = record (seat (map (resettled_at m.name m.now) r) 0) { who = Configuring (checked y) }
 
   some_seats : 0 < length seats
   some_seats = subst (λ k. 0 < k) (length-map seats (λ (n : Seat). n.who)) (subst (λ ws. 0 < length ws) (sym stands.who) (zero-lt-suc _))
@@ -389,23 +377,30 @@ module _ (facts : Facts) (seats : List Seat) (w : MachineState) (moment : IsMome
   root_no_agent : is_agent_named m.name (seat seats 0) ≡ false
   root_no_agent = ap (λ w. same_role Agent (role_of w) && same_name (name_of w) m.name) root_who
 
+  -- which goes and comes like all others, and stays as it was
+  root_is : seat (map (resettled_at m.name m.now) r) 0 ≡ resettled_at m.name m.now (seat seats 0)
+  root_is =
+      let first = first_stays m.name new seats some_seats root_no_agent in
+      let long : 0 < length (map (resettled_at m.name m.now) r) = subst (λ k. 0 < k) (sym (length-map r (resettled_at m.name m.now))) first.0 in
+      (resettled_place m.name m.now r 0 long).1 ∙ ap (resettled_at m.name m.now) first.1
+
+  pub root_stays : (seat (map (resettled_at m.name m.now) r) 0).who ≡ Configuring (checked x)
+  root_stays =
+      ap (λ (n : Seat). n.who) root_is ∙ who_resettled m.name m.now (seat seats 0) ∙ ap (resettled_who m.name m.now) root_who
+
   root_was : Was root
   root_was =
-      let first = first_stays m.name new seats some_seats root_no_agent in
-      let n = seat seats 0 in
-      let g : Seat = resettled_seat m.name m.now n in
-      let long : 0 < length (map (resettled_seat m.name m.now) r) = subst (λ k. 0 < k) (sym (length-map r (resettled_seat m.name m.now))) first.0 in
-      let is_g : seat (map (resettled_seat m.name m.now) r) 0 ≡ g = (resettled_at m.name m.now r 0 long).1 ∙ ap (resettled_seat m.name m.now) first.1 in
-      let g_who : g.who ≡ Configuring (checked x) = who_resettled m.name m.now n ∙ ap (resettled_who m.name m.now) root_who in
+      let g : Seat = resettled_at m.name m.now (seat seats 0) in
+      let g_who : g.who ≡ Configuring (checked x) = sym (ap (λ (n : Seat). n.who) root_is) ∙ root_stays in
       let same : others_of (Configuring (checked y)) ≡ others_of g.who =
       ap (λ (cs : List NodeId). map (λ (n : NodeId). Some n.name) cs) renewed.controllers ∙ ap others_of (sym g_who) in
-      subst (λ (g : Seat). Was (record g { who = Configuring (checked y) })) (sym is_g) (record {
+      subst (λ (g : Seat). Was (record g { who = Configuring (checked y) })) (sym root_is) (record {
         from = 0;
         within = some_seats;
-        fades = reseat_fades m.name n g (Configuring (checked y)) same (was_fades 0 some_seats);
+        fades = reseat_fades m.name (seat seats 0) g (Configuring (checked y)) same (was_fades 0 some_seats);
         name = ap name_of (sym root_who);
         spells = λ b c. configurations_spell (checked x) (checked y) b c ∙ ap (λ w. octets_of w b c) (sym root_who);
-        apart = λ h. not_front config (inl refl) h;
+        apart = λ h. config_is_off h;
       })
 
   seats_apart : Apart (map (λ (n : Seat). name_of n.who) seats)
@@ -414,34 +409,34 @@ module _ (facts : Facts) (seats : List Seat) (w : MachineState) (moment : IsMome
   origin : (k : ℕ) → k < length gs → Was (seat gs k) ⊎ Came (seat gs k)
   origin k lt = by (cases_eq k 0)
     where
-      less : k < length (map (resettled_seat m.name m.now) r)
-      less = subst (λ l. k < l) (length-set (map (resettled_seat m.name m.now) r) 0 root) lt
+      less : k < length (map (resettled_at m.name m.now) r)
+      less = subst (λ l. k < l) (length-set (map (resettled_at m.name m.now) r) 0 root) lt
 
       other_seat : (k ≢ 0) → Was (seat gs k) ⊎ Came (seat gs k)
       other_seat ne =
-          let q = resettled_at m.name m.now r k less in
-          let here : seat gs k ≡ resettled_seat m.name m.now (seat r k) = seat_elsewhere 0 k root (map (resettled_seat m.name m.now) r) ne ∙ q.1 in
+          let q = resettled_place m.name m.now r k less in
+          let here : seat gs k ≡ resettled_at m.name m.now (seat r k) = seat_elsewhere 0 k root (map (resettled_at m.name m.now) r) ne ∙ q.1 in
           elim (in_reseated m.name new seats seats_apart (seat r k) (member_seat r k q.0)) as (λ _. Was (seat gs k) ⊎ Came (seat gs k)) [
             | inl i ↦ inr (subst Came (sym here) (came_here m.now (λ n now. (now_there n now).1) (seat r k) i))
             | inr i ↦
                 let j = at_of_member (seat r k) seats nobody i.0 in
-                inl (subst Was (ap (resettled_seat m.name m.now) j.2 ∙ sym here) (was_there j.0 j.1 (ap (is_agent_named m.name) j.2 ∙ i.1)))
+                inl (subst Was (ap (resettled_at m.name m.now) j.2 ∙ sym here) (was_there j.0 j.1 (ap (is_agent_named m.name) j.2 ∙ i.1)))
           ]
 
       by : (k ≡ 0) ⊎ (k ≢ 0) → Was (seat gs k) ⊎ Came (seat gs k)
       by (inl e) =
           inl (subst (λ k. Was (seat gs k)) (sym e)
-          (subst Was (sym (seat_here 0 root (map (resettled_seat m.name m.now) r) (subst (λ k. k < length (map (resettled_seat m.name m.now) r)) e less))) root_was))
+          (subst Was (sym (seat_here 0 root (map (resettled_at m.name m.now) r) (subst (λ k. k < length (map (resettled_at m.name m.now) r)) e less))) root_was))
       by (inr ne) = other_seat ne
 
   -- ---- the sessions
   off_config : same_name config m.name ≡ false
-  off_config = same_false config m.name (not_front config (inl refl))
+  off_config = same_false config m.name config_is_off
 
   bare : Each (IsBareFor m.name) v.sessions
   bare =
       replaced_bare m.name t off_config
-      (λ c i. same_false c.name m.name (not_front c.name (inr (in_map (λ (c : NodeId). c.name) c t.controllers i))))
+      (λ c i. same_false c.name m.name (site_is_off c i))
       u.controllers m.now w.sessions right.sessions
 
   bare_found : (a b : Name) (s : Session) → session_of v a b ≡ Some s

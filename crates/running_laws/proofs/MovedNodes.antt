@@ -33,8 +33,9 @@ use Rattle.machine_laws.proofs.MachineModel.Changing.{not_missing}
 use Rattle.machine_laws.proofs.MachineModel.Distinct.{Apart, same_false}
 use Rattle.running_nodes.specs.Controls.{Controls}
 use Rattle.running_nodes.specs.Seats.{Who, Configuring, Controlling, Forwarding, Seat, agent_plan, control_plan, name_of, role_of, seat, whos}
-use Rattle.running_nodes.specs.Moving.{is_agent_named, is_listed_who, joined_by, reseated, retired_of, seats_of, vacated}
-use Rattle.running_laws.proofs.Resettled.{resettled_seat, resettled_seats}
+use Rattle.running_nodes.specs.Moving.{came_to, is_agent_named, is_listed_who, joined_by, reseated, resettled_at, resettled_by, retired_of, seats_of}
+use Rattle.running_nodes.specs.Moving.{vacated}
+use Rattle.running_laws.proofs.Resettled.{resettled_seats}
 
 -- ---- the nodes of the topology
 abbrev pub news : Option Node → List Node
@@ -190,7 +191,7 @@ reseated_who name new (n ∷ seats) =
     ]
 
 -- an agent goes by the list of control nodes alone
-abbrev pub agent_in : List NodeId → Node → Who
+abbrev agent_in : List NodeId → Node → Who
 agent_in cs n = Forwarding (agent_plan (record { asn = 0; controllers = cs; nodes = [] }) n)
 
 rewho_front : (name : Name) (new : List Who) (f : NodeId → Controls) (cs : List NodeId) (ws : List Who)
@@ -214,28 +215,32 @@ resettled_who name now (Configuring x) = Configuring x
 resettled_who name now (Controlling c) = Controlling (record c { agents = came_at now c.me.name (without_agent name c.agents) })
 resettled_who name now (Forwarding plan) = Forwarding plan
 
-come_who : (k : Node) (name : Name) (who : Who) (v : Seat) → v.who ≡ retired_of name who
-    → (cond (is_listed_who k (retired_of name who)) (joined_by (retired_of name who) (id_of k) v) v).who ≡ resettled_who name (Some k) who
-come_who k name (Configuring x) v is = is
-come_who k name (Controlling c) v is =
+come_who : (k : Node) (name : Name) (c : Controls) (v : Seat) → v.who ≡ retired_of name (Controlling c)
+    → (cond (is_listed c.me.name k) (joined_by (retired_of name (Controlling c)) (id_of k) v) v).who
+    ≡ resettled_who name (Some k) (Controlling c)
+come_who k name c v is =
     elim (is_listed c.me.name k) as (λ b.
     (cond b (joined_by (Controlling (record c { agents = without_agent name c.agents })) (id_of k) v) v).who
     ≡ Controlling (record c { agents = cond b (with_agent (id_of k) (without_agent name c.agents)) (without_agent name c.agents) })) [
       | true ↦ refl
       | false ↦ is
     ]
-come_who k name (Forwarding plan) v is = is
 
-gone_who : (name : Name) (who : Who) → retired_of name who ≡ resettled_who name None who
-gone_who name (Configuring x) = refl
-gone_who name (Controlling c) = refl
-gone_who name (Forwarding plan) = refl
+came_who : (now : Option Node) (name : Name) (c : Controls) (v : Seat) → v.who ≡ retired_of name (Controlling c)
+    → (came_to now v).who ≡ resettled_who name now (Controlling c)
+came_who None name c v is = is
+came_who (Some k) name c v is =
+    ap (λ w. (cond (is_listed_who k w) (joined_by w (id_of k) v) v).who) is ∙ come_who k name c v is
 
-pub who_resettled : (name : Name) (now : Option Node) (n : Seat) → (resettled_seat name now n).who ≡ resettled_who name now n.who
-who_resettled name None n = gone_who name n.who
-who_resettled name (Some k) n = come_who k name n.who (vacated name n) refl
+pub who_resettled : (name : Name) (now : Option Node) (n : Seat) → (resettled_at name now n).who ≡ resettled_who name now n.who
+who_resettled name now n = by_who n.who refl
+  where
+    by_who : (who : Who) → n.who ≡ who → (resettled_by who name now n).who ≡ resettled_who name now who
+    by_who (Configuring x) is = is
+    by_who (Controlling c) is = came_who now name c (vacated name n) (ap (retired_of name) is)
+    by_who (Forwarding plan) is = is
 
-pub resettled_whos : (name : Name) (now : Option Node) (seats : List Seat) → map who_of (map (resettled_seat name now) seats) ≡ map (resettled_who name now) (map who_of seats)
+resettled_whos : (name : Name) (now : Option Node) (seats : List Seat) → map who_of (map (resettled_at name now) seats) ≡ map (resettled_who name now) (map who_of seats)
 resettled_whos name now [] = refl
 resettled_whos name now (n ∷ seats) = λ i. who_resettled name now n i ∷ resettled_whos name now seats i
 
@@ -268,7 +273,7 @@ module _ (x y : Setup) (name : Name) (now : Option Node) (asn : y.topology.asn �
       })
 
   -- while it goes the configuration node is as it was, and so are the control nodes
-  pub seated_who : (seats : List Seat) → map who_of seats ≡ whos x
+  seated_who : (seats : List Seat) → map who_of seats ≡ whos x
       → map who_of (reseated name (seats_of y.topology now) seats)
       ≡ Configuring (checked x) ∷ (map (λ c. Controlling (control_plan x c)) x.topology.controllers
       ++ map (agent_in x.topology.controllers) y.topology.nodes)
@@ -293,6 +298,6 @@ module _ (x y : Setup) (name : Name) (now : Option Node) (asn : y.topology.asn �
       ∙ ap (map (λ c. Controlling (control_plan y c))) (sym controllers)) i
       ++ (map_map (resettled_who name now) (agent_in cs) y.topology.nodes ∙ ap (λ ds. map (agent_in ds) y.topology.nodes) (sym controllers)) i)
       in
-      map-set who_of (map (resettled_seat name now) r) 0 (record (seat (map (resettled_seat name now) r) 0) { who = Configuring (checked y) })
+      map-set who_of (map (resettled_at name now) r) 0 (record (seat (map (resettled_at name now) r) 0) { who = Configuring (checked y) })
       ∙ ap (λ (vs : List Who). slice_set vs 0 (Configuring (checked y))) (resettled_whos name now r ∙ ap (map (resettled_who name now)) seated)
       ∙ ap (λ (vs : List Who). Configuring (checked y) ∷ vs) come

@@ -4,26 +4,25 @@ use Rattle.std.specs.List.{slice_index_or, slice_set}
 use Rattle.std.specs.declared.option.Option.{Option}
 use Rattle.std.specs.declared.option.Option.TheVariants.{Some, None}
 use Rattle.std.specs.Cmp.Lexicographic.{bytes_decides}
-use Rattle.std.proofs.lemmas.Bool.{cases_eq}
+use Rattle.std.proofs.lemmas.Bool.{cases_eq, true≢false}
 use Rattle.std.proofs.lemmas.List.{get_or-set_other, length-append, length-map, length-set}
 use Rattle.std.proofs.lemmas.Option.{none-some, same_Some}
 use Rattle.std.proofs.Common.{refl, sym, ◌∙◌, ap, subst, inl, inr, arith}
 use Rattle.ov_types.specs.First.{same_name}
 use Rattle.ov_types.specs.declared.rows.NodeId.{NodeId}
 use Rattle.config_types.specs.declared.topology.Node.{Node}
-use Rattle.config_types.specs.declared.topology.Topology.{Topology}
 use Rattle.running_nodes.specs.ControlNode.Agents.{put_at}
 use Rattle.node_model.specs.Step.{nothing}
 use Rattle.machine_laws.specs.MachineModel.Setup.{Name, id_of, with_agent, without_agent}
 use Rattle.machine_laws.specs.MachineModel.Network.{config}
 use Rattle.running_nodes.specs.Controls.{Controls}
-use Rattle.running_nodes.specs.Seats.{Who, Configuring, Controlling, Forwarding, Seat, agent_plan, index_from, is_name, name_there, names_of, other}
+use Rattle.running_nodes.specs.Seats.{Who, Configuring, Controlling, Forwarding, Seat, index_from, is_name, name_there, names_of, other}
 use Rattle.running_nodes.specs.Seats.{others_of, session_with}
-use Rattle.running_nodes.specs.Moving.{is_listed_who, joined_at, joined_by, number_for, number_in, retired_of, vacated, vacated_from}
+use Rattle.running_nodes.specs.Moving.{came_to, is_listed_who, joined_at, joined_by, number_for, number_in, resettled_at, resettled_by, retired_of}
+use Rattle.running_nodes.specs.Moving.{vacated, vacated_from}
 use Rattle.running_nodes.specs.Steps.{all_of, fresh_seat}
 use Rattle.running_nodes.specs.Stands.{IsLong, IsVacant}
-use Rattle.running_laws.proofs.Building.{SameEnd, end_trans, vacant_same}
-use Rattle.running_laws.proofs.Resettled.{resettled_seat}
+use Rattle.running_laws.proofs.Building.{SameEnd, end_refl, end_trans, vacant_same}
 use Rattle.running_laws.proofs.FirstPlaces.{index_found}
 
 -- ---- lists with an item stored
@@ -70,6 +69,14 @@ put_front [] ys k x = let e : 0 + k ≡ k = omega arith in ap (λ m. put_at ys m
 put_front {X} (z ∷ xs) ys k x =
     let e : length (z ∷ xs) + k ≡ suc (length xs + k) = omega arith in
     ap (λ m. put_at (z ∷ (xs ++ ys)) m x) e ∙ ap (λ (zs : List X). z ∷ zs) (put_front xs ys k x)
+
+-- ---- nodes of which one is a control node, and the other is not
+abbrev is_control : Who → Bool
+is_control (Controlling c) = true
+is_control who = false
+
+no_control : (a : Who) (c : Controls) → a ≡ Controlling c → is_control a ≡ false → ⊥
+no_control a c is off = true≢false (sym (ap is_control is) ∙ off)
 
 module _ (name : Name) where
   abbrev at : List (Option Name) → ℕ → Option Name
@@ -161,7 +168,7 @@ module _ (name : Name) where
     notice = set_none n.notices j i false v.notice;
   }
 
-  gone_long : (n : Seat) (o : Option ℕ) → IsLong n → IsLong (gone n o)
+  pub gone_long : (n : Seat) (o : Option ℕ) → IsLong n → IsLong (gone n o)
   gone_long n None l =
       let e = sym (long_left n.who) in
       record { posts = l.posts ∙ e; kept = l.kept ∙ e; links = l.links ∙ e; breaks = l.breaks ∙ e; notices = l.notices ∙ e }
@@ -303,7 +310,7 @@ module _ (name : Name) where
         ];
       }
 
-  -- ---- it goes and comes
+  -- ---- it goes from a control node, and comes to it where it lists it
   come_fades : (k : Node) → k.name ≡ name → (n v : Seat) (who : Who) → v.who ≡ who → Fades n v → (b : Bool)
       → Fades n (cond b (joined_by who (id_of k) v) v)
   come_fades k named n v who is f false = f
@@ -311,45 +318,53 @@ module _ (name : Name) where
   come_fades k named n v (Controlling c) is f true = joined_fades (id_of k) named c n v is f
   come_fades k named n v (Forwarding plan) is f true = f
 
+  came_fades : (now : Option Node) → ((k : Node) → now ≡ Some k → k.name ≡ name) → (n v : Seat) → Fades n v
+      → Fades n (came_to now v)
+  came_fades None named n v f = f
+  came_fades (Some k) named n v f = come_fades k (named k refl) n v v.who refl f (is_listed_who k v.who)
+
+  -- a node that has no session with it
+  stays_fades : (n : Seat) → IsLong n → ((i : ℕ) → other n i ≡ None → IsVacant n i) → ((i : ℕ) → other n i ≢ Some name)
+      → Fades n n
+  stays_fades n long vacant off = record {
+    long = long;
+    vacant = vacant;
+    own = λ i e. absurd (off i e);
+    others = λ i b e ne. (e, end_refl n i);
+  }
+
   pub resettled_fades : (now : Option Node) → ((k : Node) → now ≡ Some k → k.name ≡ name) → (n : Seat) → IsLong n
       → ((i : ℕ) → other n i ≡ None → IsVacant n i)
-      → ((i : ℕ) → other n i ≡ Some name → session_with n name ≡ Some i) → Fades n (resettled_seat name now n)
-  resettled_fades None named n long vacant sole = vacated_fades n long vacant sole
-  resettled_fades (Some k) named n long vacant sole =
-      come_fades k (named k refl) n (vacated name n) (vacated name n).who refl (vacated_fades n long vacant sole)
-      (is_listed_who k (vacated name n).who)
+      → ((i : ℕ) → other n i ≡ Some name → session_with n name ≡ Some i)
+      → ((i : ℕ) → other n i ≡ Some name → (c : Controls) × (n.who ≡ Controlling c))
+      → Fades n (resettled_at name now n)
+  resettled_fades now named n long vacant sole mates = by_who n.who refl
+    where
+      by_who : (who : Who) → n.who ≡ who → Fades n (resettled_by who name now n)
+      by_who (Configuring x) is = stays_fades n long vacant (λ i e. no_control (Configuring x) (mates i e).0 (sym is ∙ (mates i e).1) refl)
+      by_who (Controlling c) is = came_fades now named n (vacated name n) (vacated_fades n long vacant sole)
+      by_who (Forwarding plan) is = stays_fades n long vacant (λ i e. no_control (Forwarding plan) (mates i e).0 (sym is ∙ (mates i e).1) refl)
 
-  -- ---- a fresh agent has nothing
-  alike : {X Y : Type 0} (y : Y) (xs : List X) (i : ℕ) → slice_index_or (all_of y xs) i y ≡ y
-  alike y [] i = refl
-  alike y (x ∷ xs) zero = refl
-  alike y (x ∷ xs) (suc i) = alike y xs i
+-- ---- a fresh node has nothing
+alike : {X Y : Type 0} (y : Y) (xs : List X) (i : ℕ) → slice_index_or (all_of y xs) i y ≡ y
+alike y [] i = refl
+alike y (x ∷ xs) zero = refl
+alike y (x ∷ xs) (suc i) = alike y xs i
 
-  fresh_nothing : (who : Who) (i : ℕ) → IsVacant (fresh_seat who) i
-  fresh_nothing who i = record {
-    post = alike nothing (others_of who) i;
-    kept = alike [] (others_of who) i;
-    link = alike [] (others_of who) i;
-    breaks = alike [] (others_of who) i;
-    notice = alike false (others_of who) i;
-  }
+pub fresh_nothing : (who : Who) (i : ℕ) → IsVacant (fresh_seat who) i
+fresh_nothing who i = record {
+  post = alike nothing (others_of who) i;
+  kept = alike [] (others_of who) i;
+  link = alike [] (others_of who) i;
+  breaks = alike [] (others_of who) i;
+  notice = alike false (others_of who) i;
+}
 
-  fresh_room : (who : Who) → IsLong (fresh_seat who)
-  fresh_room who = record {
-    posts = length-map (others_of who) (λ _. nothing);
-    kept = length-map (others_of who) (λ _. []);
-    links = length-map (others_of who) (λ _. []);
-    breaks = length-map (others_of who) (λ _. []);
-    notices = length-map (others_of who) (λ _. false);
-  }
-
-  abbrev fresh_agent : Topology → Node → Seat
-  fresh_agent t k = fresh_seat (Forwarding (agent_plan t k))
-
-  pub fresh_vacant : (t : Topology) (k : Node) (now : Option Node) (i : ℕ) → IsVacant (resettled_seat name now (fresh_agent t k)) i
-  fresh_vacant t k None i = gone_vacant (fresh_agent t k) (session_with (fresh_agent t k) name) i (fresh_nothing (Forwarding (agent_plan t k)) i)
-  fresh_vacant t k (Some l) i = gone_vacant (fresh_agent t k) (session_with (fresh_agent t k) name) i (fresh_nothing (Forwarding (agent_plan t k)) i)
-
-  pub fresh_long : (t : Topology) (k : Node) (now : Option Node) → IsLong (resettled_seat name now (fresh_agent t k))
-  fresh_long t k None = gone_long (fresh_agent t k) (session_with (fresh_agent t k) name) (fresh_room (Forwarding (agent_plan t k)))
-  fresh_long t k (Some l) = gone_long (fresh_agent t k) (session_with (fresh_agent t k) name) (fresh_room (Forwarding (agent_plan t k)))
+pub fresh_room : (who : Who) → IsLong (fresh_seat who)
+fresh_room who = record {
+  posts = length-map (others_of who) (λ _. nothing);
+  kept = length-map (others_of who) (λ _. []);
+  links = length-map (others_of who) (λ _. []);
+  breaks = length-map (others_of who) (λ _. []);
+  notices = length-map (others_of who) (λ _. false);
+}

@@ -1,35 +1,25 @@
 -- A compute node moves: what is made of the seats, and of the network, before the control nodes that it listed make their
 -- passes.
-use Rattle.std.specs.Prelude.{List, map, cond}
+use Rattle.std.specs.Prelude.{List, map}
 use Rattle.std.specs.declared.option.Option.{Option}
-use Rattle.std.specs.declared.option.Option.TheVariants.{Some, None}
 use Rattle.config_types.specs.declared.edit.Edit.{Edit}
 use Rattle.config_types.specs.declared.topology.Node.{Node}
 use Rattle.schedule_script.specs.ConfigCheck.Checked.{Checked}
 use Rattle.schedule_script.specs.ConfigCheck.Edits as config_edits
-use Rattle.machine_laws.specs.MachineModel.Setup.{Move, Name, Setup, checked, id_of, moves, remade, renumbered}
+use Rattle.machine_laws.specs.MachineModel.Setup.{Move, Name, Setup, checked, moves, remade, renumbered}
 use Rattle.machine_laws.specs.MachineModel.Network.{MachineState, brought, replaced}
 use Rattle.running_nodes.specs.Seats.{Seat, Configuring, seat}
-use Rattle.running_nodes.specs.Moving.{is_listed_who, joined, vacated}
+use Rattle.running_nodes.specs.Moving.{resettled_at}
 use Rattle.running_nodes.specs.Steps.{with_seat}
 
 -- what an edit without a fault makes of a setup
 abbrev pub setup_after : Setup → Edit → Setup
 setup_after x e = remade (config_edits.edited e (checked x)) (renumbered (moves e x.topology) x.numbers)
 
--- it comes to one node, where that is a control node that it lists
-abbrev pub comes_to : Option Node → Seat → Seat
-comes_to None s = s
-comes_to (Some n) s = cond (is_listed_who n s.who) (joined (id_of n) s) s
-
--- one seat, once the agent has gone and come
-abbrev pub resettled_seat : Name → Option Node → Seat → Seat
-resettled_seat name now s = comes_to now (vacated name s)
-
 -- all of them, where the configuration node has what is valid then, and did nothing yet
 abbrev pub resettled_seats : Checked → Name → Option Node → List Seat → List Seat
 resettled_seats y name now seats =
-    with_seat 0 (record (seat (map (resettled_seat name now) seats) 0) { who = Configuring y }) (map (resettled_seat name now) seats)
+    with_seat 0 (record (seat (map (resettled_at name now) seats) 0) { who = Configuring y }) (map (resettled_at name now) seats)
 
 -- the network whose sessions were replaced
 abbrev pub resettled : Move → Setup → MachineState → MachineState

@@ -17,7 +17,7 @@ use Rattle.running_nodes.specs.Seats.{Who, Configuring, Controlling, Forwarding,
 use Rattle.running_nodes.specs.Seats.{seat_named, session_with}
 use Rattle.running_nodes.specs.Steps.{Passes, cleared, fresh_seat, with_seat}
 
--- ---- an agent goes from a control node
+-- ---- an agent goes from a control node, which tells nobody yet
 -- there is nothing at an end any more
 abbrev pub vacated_at : ℕ → Seat → Seat
 vacated_at i n = record n {
@@ -39,16 +39,6 @@ retired_of name who = who
 
 abbrev pub vacated : Name → Seat → Seat
 vacated name n = record (vacated_from (session_with n name) n) { who = retired_of name n.who }
-
--- an agent goes from the control node of a seat, which tells nobody yet
-abbrev pub left_at : Name → Option ℕ → List Seat → List Seat
-left_at name None seats = seats
-left_at name (Some k) seats = with_seat k (vacated name (seat seats k)) seats
-
--- an agent goes from all the control nodes of some names
-abbrev pub left_all : Name → List Name → List Seat → List Seat
-left_all name [] seats = seats
-left_all name (c ∷ cs) seats = left_all name cs (left_at name (seat_named seats c) seats)
 
 -- ---- its own seat
 -- a seat is that of the agent of this name
@@ -98,9 +88,18 @@ abbrev pub is_listed_who : Node → Who → Bool
 is_listed_who n (Controlling c) = is_listed c.me.name n
 is_listed_who n who = false
 
-abbrev pub came : Option Node → List Seat → List Seat
-came None seats = seats
-came (Some n) seats = map (λ (s : Seat). if is_listed_who n s.who then joined (id_of n) s else s) seats
+-- it comes to a control node, where it lists it
+abbrev pub came_to : Option Node → Seat → Seat
+came_to None s = s
+came_to (Some n) s = if is_listed_who n s.who then joined (id_of n) s else s
+
+-- ---- an agent goes from a control node and comes to it, and nothing else changes
+abbrev pub resettled_by : Who → Name → Option Node → Seat → Seat
+resettled_by (Controlling c) name now n = came_to now (vacated name n)
+resettled_by who name now n = n
+
+abbrev pub resettled_at : Name → Option Node → Seat → Seat
+resettled_at name now n = resettled_by n.who name now n
 
 -- ---- passes
 -- the node of a seat makes its pass, and then the sessions go down of which it closed its end
@@ -116,9 +115,9 @@ PassesAll (c ∷ cs) seats after =
     (between : List Seat) × PassesAt (seat_named seats c) seats between × PassesAll cs between after
 
 -- ---- all of it
--- in a topology: its seat is another, it goes from the control nodes that it listed, and it comes to those that it lists
+-- in a topology: its seat is another, it goes from all control nodes, and it comes to those that it lists
 abbrev pub before_passes : Topology → Move → List Seat → List Seat
-before_passes t m seats = came m.now (left_all m.name m.left (reseated m.name (seats_of t m.now) seats))
+before_passes t m seats = map (resettled_at m.name m.now) (reseated m.name (seats_of t m.now) seats)
 
 -- a node moves: what `before_passes` says, and then the control nodes that it listed make their passes
 abbrev pub Moves : Topology → Move → List Seat → List Seat → Type 0

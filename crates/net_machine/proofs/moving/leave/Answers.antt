@@ -1,7 +1,8 @@
-use Rattle.std.proofs.Common.{ℕ, List, IfOk, sym, ◌∙◌, ap, subst, ◌≡◌}
+use Rattle.std.proofs.Common.{ℕ, IfOk, sym, ◌∙◌, subst, ◌≡◌}
 use Rattle.std.specs.declared.option.Option.{Option}
-use Rattle.running_nodes.specs.Moving.{left_at}
-use Rattle.net_machine.proofs.Leaving.{no_place, place_is_agents, place_node}
+use Rattle.running_laws.proofs.Lists.{named_by}
+use Rattle.net_machine.specs.Moving.{left_at}
+use Rattle.net_machine.proofs.Leaving.{none_goes, place_is_agents}
 use Rattle.net_machine.proofs.moving.leave.Goals as goal
 
 pub retire_agent-requires-clause-node : goal.retire_agent-requires-clause-node
@@ -27,12 +28,11 @@ retire_agent-requires-clause-alone c =
 
 pub returns-in-None-clause-left : goal.returns-in-None-clause-left
 returns-in-None-clause-left c =
-    absurd (no_place _ c.args.name.now c.args.control.now c.requires.agent (sym c.place_of.ensures ∙ c.in-None.is))
+    none_goes _ c.args.name.now c.args.control.now c.requires.agent (sym c.place_of.ensures ∙ c.in-None.is)
 
 pub returns-in-Some-clause-left : goal.returns-in-Some-clause-left
 returns-in-Some-clause-left c =
     let seats = c.args.nodes.now.seats in
     subst (λ (o : Option ℕ). IfOk c.retire_agent.result (λ _. c.retire_agent.new.self.seats ≡ left_at c.args.name.now o seats))
-    (sym (place_node seats c.args.name.now c.args.control.now c.in-Some.place c.requires.agent
-    (sym c.place_of.ensures ∙ c.in-Some.is)))
+    (sym (named_by seats c.args.control.now c.args.name.now c.in-Some.place (sym c.place_of.ensures ∙ c.in-Some.is)))
     c.retire_agent.ensures.left
