@@ -1,12 +1,14 @@
 -- What is taken of the answer of `diff` is as it promises.
-use Rattle.std.proofs.Common.{◌≡◌, ◌≢◌, ◌↔◌, ◌⊎◌, ℕ, List, [], ◌++◌, Option, Some, None, Result, Ok, Err, inl, refl, sym, ap, subst, ◌∙◌}
+use Rattle.std.proofs.Common.{◌≡◌, ◌≢◌, ◌↔◌, ◌⊎◌, ℕ, true, List, [], ◌++◌, Option, Some, None, Result, Ok, Err, inl, refl, sym, ap, subst, ◌∙◌}
 use Rattle.std.specs.Prelude.{IfOk}
 use Rattle.std.proofs.lemmas.List.{append-nil}
 use Rattle.ov_io.specs.Inputs.{WasReadWhole}
-use Rattle.compile_answers.specs.Answers.{DocumentAnswer}
+use Rattle.compile_answers.specs.Answers.{AreReadAs, DocumentAnswer, input_of}
 use Rattle.compile_answers.specs.declared.unfit.Reception.TheVariants as Received
 use Rattle.std.specs.Io.KnownBytes.{Appends}
+use Rattle.config_types.specs.Form.{has_config_form}
 use Rattle.config_check.specs.Checked.{Checked}
+use Rattle.config_check.specs.Rules.{first_broken}
 use Rattle.inspect_answers.specs.Changes.{IsValidIn, TookDifferences}
 use Rattle.inspect_changes.specs.DifferenceLines.{lists_text}
 use Rattle.inspect_json.specs.ChangeLines.{lists_in}
@@ -35,6 +37,11 @@ otherwise Same text h = ((λ e. absurd cc), (λ n. absurd (n h)))
 otherwise Differs text h = ((λ e. h), (λ n. refl))
 otherwise (UnfitBefore r) text h = absurd h
 otherwise (UnfitAfter r) text h = absurd h
+
+-- a document of a valid configuration of the written form
+pub valid_in : (octets : List ℕ) (v : Checked) → AreReadAs octets (input_of v) → has_config_form v.config ≡ true → first_broken v.topology v.config ≡ None
+    → IsValidIn octets v
+valid_in octets v read form valid = record { written = (read.value, read.json, read.is); form = form; valid = valid }
 
 pub took : (form : Form) (found : Comparison) (v w : Checked) (first second : List ℕ) (old new : Option (List ℕ)) → IsValidIn first v → IsValidIn second w
     → SaysWhether found (lists_text (gone v.config w.config) (gone w.config v.config) (all_differences v.config w.config))

@@ -1,4 +1,5 @@
 mod Unfitting
+mod Answered
 mod Told
 mod ExpectRead
 mod Counting
@@ -12,7 +13,6 @@ mod TookReasons
 mod JudgedEdits
 mod Changed
 pub mod Formed
-pub mod Having
 pub mod OfEach
 pub mod RegionSizes
 pub mod RuleSizes

@@ -1,29 +1,27 @@
 -- What is taken of the answer of `expect` is as it promises.
-use Rattle.std.proofs.Common.{◌≡◌, ◌<◌, ◌^◌, ◌↔◌, ℕ, true, cond, List, [], ◌++◌, Option, Some, None, Result, Ok, Err}
+use Rattle.std.proofs.Common.{◌≡◌, ◌<◌, ◌^◌, ◌↔◌, ℕ, true, cond, List, [], ◌++◌, Option, None, Result, Ok, Err}
 use Rattle.std.proofs.Common.{refl, sym, ap, ◌∙◌, subst, length, flat_map, arith}
 use Rattle.std.specs.Prelude.{IfOk}
 use Rattle.std.specs.List.{All, Any, Contains}
 use Rattle.std.specs.Io.KnownBytes.{Appends}
-use Rattle.serde_json.specs.Data.{Data}
-use Rattle.ov_io.specs.Json.{json_of}
 use Rattle.ov_types.specs.declared.packet.Outcome.{Outcome}
 use Rattle.config_types.specs.Form.{has_config_form}
 use Rattle.config_types.specs.declared.config.Config.{Config}
 use Rattle.config_types.specs.declared.topology.Topology.{Topology}
-use Rattle.config_model.specs.Faults.{Fault}
 use Rattle.config_check.specs.Rules.{first_broken}
-use Rattle.config_check.specs.declared.refusal.Refusal.{Refusal}
-use Rattle.inspect_answers.specs.Answers.{Answer, IsAnswer, WasGiven, answer_unless, expect_answer, expect_reading, expect_value, expected_answer, of_json}
-use Rattle.inspect_answers.specs.Expectations.{ExpectInput, Expectation, expect_at}
+use Rattle.inspect_answers.specs.Answers.{Answer, IsAnswer, WasGiven, expect_answer, expect_taken, expected_answer}
+use Rattle.inspect_answers.specs.Expectations.{Expectation, expect_at}
+use Rattle.inspect_answers.specs.declared.expecting.AskedExpectations.{AskedExpectations}
 use Rattle.inspect_answers.specs.ExpectValues.{has_expected_size}
 use Rattle.inspect_answers.specs.Expecting.{all_met, counts_in, expect_in, unmet_count}
 use Rattle.inspect_json.specs.Form.{IsReadBack}
 use Rattle.inspect_json.specs.Sizes.{has_outcome_size}
 use Rattle.inspect_json.specs.declared.form.Form.{Form}
 use Rattle.inspect_answers.specs.InForm.{AreExpectedInForm}
+use Rattle.inspect_answers.proofs.Answered.{IsRead, is_read}
 use Rattle.inspect_answers.proofs.Formed.{in_form}
 use Rattle.inspect_answers.specs.Runs.{status_of}
-use Rattle.inspect_answers.specs.Unmet.{ComesSo, IsExpectedIn, TookExpected, Unmet, line_in, line_value}
+use Rattle.inspect_answers.specs.Unmet.{ComesSo, TookExpected, Unmet, line_in, line_value}
 use Rattle.inspect_answers.specs.declared.top.Status.TheVariants as Ended
 use Rattle.inspect_answers.specs.declared.verdict.Verdict.{Verdict}
 use Rattle.inspect_answers.specs.declared.verdict.Verdict.TheVariants as Found
@@ -32,36 +30,11 @@ use Rattle.inspect_answers.proofs.Otherwise.{count_of_lines, differs_where, done
 use Rattle.inspect_answers.proofs.PacketSizes.{outcome_sized}
 use Rattle.inspect_answers.proofs.RuleSizes.{within}
 
--- the input
-
--- a valid configuration and expectations were read, and what is said of them is the answer
-record IsRead (form : Form) (octets : List ℕ) : Type 0 where
-  pub read : ExpectInput
-  pub written : IsExpectedIn octets read
-  pub valid : first_broken read.input.topology read.input.config ≡ None
-  pub is : expect_answer form octets ≡ expected_answer form read.input.config read.packets
-
-by_answer : (broken : Option Refusal) (answer : Answer) → IsAnswer (answer_unless broken answer).verdict
-    → (broken ≡ None) × (answer_unless broken answer ≡ answer)
-by_answer (Some r) answer h = absurd h
-by_answer None answer h = (refl, refl)
-
-by_reading : (form : Form) (octets : List ℕ) (d : Data) → json_of octets ≡ Some d → (r : Result ExpectInput Fault) → expect_at [] d ≡ r
-    → expect_answer form octets ≡ expect_reading form r → IsAnswer (expect_reading form r).verdict → IsRead form octets
-by_reading form octets d e (Err f) read is h = absurd h
-by_reading form octets d e (Ok r) read is h =
-    let parts = by_answer (first_broken r.input.topology r.input.config) (expected_answer form r.input.config r.packets) h in
-    record { read = r; written = (d, e, read); valid = parts.0; is = is ∙ parts.1 }
-
-by_json : (form : Form) (octets : List ℕ) (o : Option Data) → json_of octets ≡ o → expect_answer form octets ≡ of_json (expect_value form) o
-    → IsAnswer (of_json (expect_value form) o).verdict → IsRead form octets
-unfolding expect_value
-by_json form octets None e is h = absurd h
-by_json form octets (Some d) e is h = by_reading form octets d e (expect_at [] d) refl is h
-
-is_read : (form : Form) (octets : List ℕ) → IsAnswer (expect_answer form octets).verdict → IsRead form octets
-unfolding expect_answer
-is_read form octets h = by_json form octets (json_of octets) refl refl h
+is_good : (form : Form) (octets : List ℕ) → IsAnswer (expect_answer form octets).verdict
+    → IsRead (expect_at []) (λ r. r.input) (λ r. expected_answer form r.input.config r.packets) octets (expect_answer form octets)
+unfolding expect_answer expect_taken
+is_good form octets h =
+    is_read (expect_at []) (λ r. r.input) (λ r x. record { valid = x; packets = r.packets }) (λ (q : AskedExpectations). expected_answer form q.valid.config q.packets) octets h
 
 line_reads : (t : Topology) (c : Config) → has_config_form c ≡ true → first_broken t c ≡ None → (es : List Expectation) → length es < 2 ^ 64
     → (line : Unmet) → Contains (lines_from c 1 es) line → has_expected_size line.expected ≡ true → IsReadBack (line_value c line)
@@ -76,17 +49,17 @@ pub took_expected : (form : Form) (octets : List ℕ) (verdict : Verdict) (old n
     → (IsAnswer verdict → AreExpectedInForm octets) → IsAnswer verdict → TookExpected form (status_of verdict) octets old new
 unfolding expect_in
 took_expected form octets verdict old new given of_form answers =
-    let good = is_read form octets (subst IsAnswer given.is answers) in
-    let c = good.read.input.config in
-    let es = good.read.packets in
-    let formed : has_config_form c ≡ true = in_form (expect_at []) (λ r. r.input.config) octets good.written.0 good.read (of_form answers) good.written.1 good.written.2 in
+    let good = is_good form octets (subst IsAnswer given.is answers) in
+    let c = good.asked.input.config in
+    let es = good.asked.packets in
+    let formed : has_config_form c ≡ true = in_form (expect_at []) (λ r. r.input.config) octets good.written.0 good.asked (of_form answers) good.written.1 good.written.2 in
     let text : (expect_answer form octets).text ≡ flat_map (line_in form c) (lines_from c 1 es) ++ counts_in form (length es) (length (lines_from c 1 es)) =
     ap (λ (a : Answer). a.text) good.is
     ∙ ap (λ (t : List ℕ). t ++ counts_in form (length es) (unmet_count c es)) (text_of_lines form c 1 es)
     ∙ ap (λ (n : ℕ). flat_map (line_in form c) (lines_from c 1 es) ++ counts_in form (length es) n) (count_of_lines c 1 es) in
     let verdict_is : cond (all_met c es) Found.Good Found.Differs ≡ verdict = sym (given.is ∙ ap (λ (a : Answer). a.verdict) good.is) in
     record {
-      read = good.read;
+      read = good.asked;
       written = good.written;
       valid = good.valid;
       lines = lines_from c 1 es;
@@ -95,7 +68,7 @@ took_expected form octets verdict old new given of_form answers =
       in_order = in_order c 1 es;
       met = subst (λ (v : Verdict). (status_of v ≡ Ended.Done) ↔ All (ComesSo c) es) verdict_is (done_where c es (all_met c es) refl);
       unmet = subst (λ (v : Verdict). (status_of v ≡ Ended.Differs) ↔ Any (λ e. ¬ ComesSo c e) es) verdict_is (differs_where c es (all_met c es) refl);
-      reads = line_reads good.read.input.topology c formed good.valid es;
+      reads = line_reads good.asked.input.topology c formed good.valid es;
       counts_read = λ few. let fewer_lines = fewer c 1 es in counts_reads (length es) (length (lines_from c 1 es)) few (omega (arith, fewer_lines, few));
     }
 

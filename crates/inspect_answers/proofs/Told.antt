@@ -5,8 +5,6 @@ use Rattle.std.specs.List.{Contains}
 use Rattle.std.specs.Io.KnownBytes.{Appends}
 use Rattle.std.proofs.lemmas.Grind.{flat_map-append}
 use Rattle.std.proofs.lemmas.List.Folds.{flat_map-map}
-use Rattle.serde_json.specs.Data.{Data}
-use Rattle.ov_io.specs.Json.{json_of}
 use Rattle.ov_types.specs.First.{same_name}
 use Rattle.ov_types.specs.declared.packet.Tuple.{Tuple}
 use Rattle.ov_types.proofs.FirstLemmas.{same_name_iff}
@@ -15,19 +13,18 @@ use Rattle.config_types.specs.Form.{has_config_form}
 use Rattle.config_types.specs.declared.config.Config.{Config}
 use Rattle.config_types.specs.declared.config.Network.{Network}
 use Rattle.config_types.specs.declared.topology.Topology.{Topology}
-use Rattle.config_model.specs.Faults.{Fault}
 use Rattle.config_model.specs.Input.{compile_at}
-use Rattle.config_model.specs.declared.input.CompileInput.{CompileInput}
 use Rattle.config_check.specs.Rules.{first_broken}
 use Rattle.config_check.specs.declared.refusal.Refusal.{Refusal}
-use Rattle.compile_answers.specs.Answers.{answer_checked, answer_good}
+use Rattle.compile_answers.specs.Answers.{answer_checked, answer_good, compile_taken}
 use Rattle.policy_rules.specs.declared.matching.Decision.{Decision}
 use Rattle.policy_rules.proofs.Lists.{joined_is, is_joined, is_mapped, mapped_is}
 use Rattle.policy_regions.specs.Parts.{IsTuple}
-use Rattle.inspect_answers.specs.Answers.{Answer, IsAnswer, WasGiven, answer_unless, judged, missing_of, of_json, ways_answer, ways_reading, ways_value}
+use Rattle.inspect_answers.specs.Answers.{Answer, IsAnswer, WasGiven, judged, missing_of, valid_answer, ways_answer}
 use Rattle.inspect_changes.specs.Lines.{is_asked}
-use Rattle.inspect_answers.specs.Promise.{IsAskedFor, IsLetBetween, IsWrittenIn, Line, Tells, TookWays, line_in, line_value, lines_of, network_lines, pair_lines}
+use Rattle.inspect_answers.specs.Promise.{IsAskedFor, IsLetBetween, Line, Tells, TookWays, line_in, line_value, lines_of, network_lines, pair_lines}
 use Rattle.inspect_answers.specs.InForm.{AreWrittenInForm}
+use Rattle.inspect_answers.proofs.Answered.{IsRead, is_read}
 use Rattle.inspect_answers.proofs.Formed.{in_form}
 use Rattle.inspect_answers.specs.Runs.{status_of}
 use Rattle.inspect_changes.specs.Ways.{IsLetThrough, ways_between}
@@ -173,54 +170,38 @@ line_reads t pairs c form valid line at =
 
 -- the input
 
--- a valid configuration was read, and its ways are the text
-pub record IsGood (form : Form) (pairs : Pairs) (octets : List ℕ) : Type 0 where
-  pub input : CompileInput
-  pub written : IsWrittenIn octets input
-  pub valid : first_broken input.topology input.config ≡ None
-  pub is : ways_answer form pairs octets ≡ judged (answer_good (ways_in form pairs input.config))
+-- where no network is missing the ways are the text
+by_missing : (missing : Option Refusal) (text : List ℕ) → IsAnswer (judged (answer_checked missing text)).verdict
+    → judged (answer_checked missing text) ≡ judged (answer_good text)
+by_missing (Some r) text h = absurd h
+by_missing None text h = refl
 
-by_answer : (broken missing : Option Refusal) (text : List ℕ) → IsAnswer (answer_unless broken (judged (answer_checked missing text))).verdict
-    → (broken ≡ None) × (answer_unless broken (judged (answer_checked missing text)) ≡ judged (answer_good text))
-by_answer (Some r) missing text h = absurd h
-by_answer None (Some r) text h = absurd h
-by_answer None None text h = (refl, refl)
-
-by_reading : (form : Form) (pairs : Pairs) (octets : List ℕ) (d : Data) → json_of octets ≡ Some d → (r : Result CompileInput Fault) → compile_at [] d ≡ r
-    → ways_answer form pairs octets ≡ ways_reading form pairs r → IsAnswer (ways_reading form pairs r).verdict → IsGood form pairs octets
-by_reading form pairs octets d e (Err f) read is h = absurd h
-by_reading form pairs octets d e (Ok p) read is h =
-    let parts = by_answer (first_broken p.topology p.config) (missing_of pairs p.config) (ways_in form pairs p.config) h in
-    record { input = p; written = (d, e, read); valid = parts.0; is = is ∙ parts.1 }
-
-by_json : (form : Form) (pairs : Pairs) (octets : List ℕ) (o : Option Data) → json_of octets ≡ o → ways_answer form pairs octets ≡ of_json (ways_value form pairs) o
-    → IsAnswer (of_json (ways_value form pairs) o).verdict → IsGood form pairs octets
-unfolding ways_value
-by_json form pairs octets None e is h = absurd h
-by_json form pairs octets (Some d) e is h = by_reading form pairs octets d e (compile_at [] d) refl is h
-
-is_good : (form : Form) (pairs : Pairs) (octets : List ℕ) → IsAnswer (ways_answer form pairs octets).verdict → IsGood form pairs octets
-unfolding ways_answer
-is_good form pairs octets h = by_json form pairs octets (json_of octets) refl refl h
+is_good : (form : Form) (pairs : Pairs) (octets : List ℕ) → IsAnswer (ways_answer form pairs octets).verdict
+    → IsRead (compile_at []) (λ p. p) (λ p. valid_answer form pairs p.config) octets (ways_answer form pairs octets)
+unfolding ways_answer compile_taken
+is_good form pairs octets h = is_read (compile_at []) (λ p. p) (λ p x. x) (λ v. valid_answer form pairs v.config) octets h
 
 pub took_ways : (form : Form) (pairs : Pairs) (octets : List ℕ) (verdict : Verdict) (old new : Option (List ℕ)) → WasGiven (ways_answer form pairs octets) verdict old new
     → (IsAnswer verdict → AreWrittenInForm octets) → IsAnswer verdict → (status_of verdict ≡ Ended.Done) × TookWays form pairs octets old new
 took_ways form pairs octets verdict old new given of_form answers =
     let good = is_good form pairs octets (subst IsAnswer given.is answers) in
-    let formed : has_config_form good.input.config ≡ true = in_form (compile_at []) (λ p. p.config) octets good.written.0 good.input (of_form answers) good.written.1 good.written.2 in
-    let same : (ways_answer form pairs octets).text ≡ flat_map (line_in form good.input.config) (lines_of pairs good.input.config) =
-    ap (λ (a : Answer). a.text) good.is ∙ text_of_lines form pairs good.input.config in
-    let verdict_is : verdict ≡ Good = given.is ∙ ap (λ (a : Answer). a.verdict) good.is in (
+    let c = good.asked.config in
+    let is : ways_answer form pairs octets ≡ judged (answer_good (ways_in form pairs c)) =
+    good.is ∙ by_missing (missing_of pairs c) (ways_in form pairs c) (subst IsAnswer (given.is ∙ ap (λ (a : Answer). a.verdict) good.is) answers) in
+    let formed : has_config_form c ≡ true = in_form (compile_at []) (λ p. p.config) octets good.written.0 good.asked (of_form answers) good.written.1 good.written.2 in
+    let same : (ways_answer form pairs octets).text ≡ flat_map (line_in form c) (lines_of pairs c) =
+    ap (λ (a : Answer). a.text) is ∙ text_of_lines form pairs c in
+    let verdict_is : verdict ≡ Good = given.is ∙ ap (λ (a : Answer). a.verdict) is in (
       ap status_of verdict_is,
       record {
-        input = good.input;
+        input = good.asked;
         written = good.written;
         valid = good.valid;
-        lines = lines_of pairs good.input.config;
+        lines = lines_of pairs c;
         taken = subst (λ (t : List ℕ). Appends old new t) same given.taken;
-        exact = λ a b t d passage h. (told pairs good.input.config a b t d passage h, is_told pairs good.input.config a b t d passage h);
-        apart = on_one_at_most good.input.config;
-        reads = line_reads good.input.topology pairs good.input.config formed good.valid;
+        exact = λ a b t d passage h. (told pairs c a b t d passage h, is_told pairs c a b t d passage h);
+        apart = on_one_at_most c;
+        reads = line_reads good.asked.topology pairs c formed good.valid;
       },
     )
 

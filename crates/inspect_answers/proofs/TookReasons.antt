@@ -1,5 +1,5 @@
 -- What is taken of the answer of `why` is as it promises.
-use Rattle.std.proofs.Common.{◌≡◌, ◌<◌, ◌+◌, ◌^◌, inl, inr, true, ℕ, zero, suc, IsTrue, List, [], ◌∷◌, ◌++◌, Option, Some, None, refl, sym, ap, subst, arith, length, flat_map}
+use Rattle.std.proofs.Common.{◌≡◌, ◌<◌, ◌+◌, ◌^◌, inl, inr, true, ℕ, zero, suc, IsTrue, List, [], ◌∷◌, ◌++◌, Option, Some, None, Ok, refl, sym, ap, subst, arith, length, flat_map}
 use Rattle.std.specs.Prelude.{slice_get}
 use Rattle.std.specs.List.{Contains, list_all}
 use Rattle.std.specs.Io.KnownBytes.{Appends}
@@ -8,8 +8,10 @@ use Rattle.ov_types.specs.declared.packet.Outcome.{Outcome}
 use Rattle.ov_types.specs.declared.packet.Packet.{Packet}
 use Rattle.ov_types.proofs.FirstLemmas.{contains_cases}
 use Rattle.config_types.specs.Form.{has_config_form}
+use Rattle.config_model.specs.Input.{reach_at}
 use Rattle.config_check.specs.Checked.{Checked}
 use Rattle.config_check.specs.Rules.{first_broken}
+use Rattle.compile_answers.specs.Answers.{AreDocument, input_of}
 use Rattle.reach_plain.specs.Reachability.{reachability}
 use Rattle.inspect_rules.specs.Causes.{causes}
 use Rattle.inspect_rules.specs.declared.cause.Cause.{Cause}
@@ -21,7 +23,7 @@ use Rattle.inspect_json.specs.Form.{IsReadBack}
 use Rattle.inspect_json.specs.Sizes.{has_cause_size, has_outcome_size}
 use Rattle.inspect_json.specs.declared.form.Form.{Form}
 use Rattle.inspect_json.proofs.ReasonsBack.{explained_reads}
-use Rattle.inspect_answers.specs.Explained.{Explained, IsAskedOf, IsExplained, TookExplained, has_walk_size, packet_in, packets_from, told_in, told_value, why_in}
+use Rattle.inspect_answers.specs.Explained.{Explained, IsExplained, TookExplained, has_walk_size, packet_in, packets_from, told_in, told_value, why_in}
 use Rattle.inspect_answers.proofs.PacketSizes.{causes_sized, outcome_sized}
 
 -- what is told of packets
@@ -99,16 +101,17 @@ each_reads v form valid ps sized few x at =
     (subst (λ (xs : List Cause). list_all has_cause_size xs ≡ true) (sym told.because) (causes_sized v.topology v.config form valid told.packet))
     told.walk
 
-pub took_explained : (form : Form) (octets : List ℕ) (v : Checked) (ps : List Packet) (old new : Option (List ℕ)) → IsAskedOf octets v ps
-    → list_all (has_walk_size v) ps ≡ true → Appends old new (why_in form v ps) → TookExplained form octets old new
+pub took_explained : (form : Form) (octets : List ℕ) (v : Checked) (ps : List Packet) (old new : Option (List ℕ))
+    → AreDocument octets (λ d. reach_at [] d ≡ Ok (record { input = input_of v; packets = ps })) → has_config_form v.config ≡ true
+    → first_broken v.topology v.config ≡ None → list_all (has_walk_size v) ps ≡ true → Appends old new (why_in form v ps) → TookExplained form octets old new
 unfolding why_in
-took_explained form octets v ps old new asked sized taken = record {
-  read = record { input = record { topology = v.topology; config = v.config }; packets = ps };
-  written = asked.written;
-  valid = asked.valid;
+took_explained form octets v ps old new asked formed valid sized taken = record {
+  read = record { input = input_of v; packets = ps };
+  written = (asked.value, asked.json, asked.is);
+  valid = valid;
   explained = explained_from v 1 ps;
   taken = subst (λ (t : List ℕ). Appends old new t) (text_of_each form v 1 ps) taken;
   many = as_many v 1 ps;
-  each = λ place p x at told. explained_at v asked.form asked.valid 1 ps place p x at told place refl;
-  reads = each_reads v asked.form asked.valid ps sized;
+  each = λ place p x at told. explained_at v formed valid 1 ps place p x at told place refl;
+  reads = each_reads v formed valid ps sized;
 }

@@ -1,38 +1,36 @@
--- What is not fit is answered so, whatever would be answered to what is valid.
-use Rattle.std.proofs.Common.{◌≡◌, ◌≢◌, refl, sym, ap, ◌∙◌, ℕ, List, [], Option, Some, None}
-use Rattle.config_check.specs.declared.refusal.Refusal.{Refusal}
+-- What is not fit is answered so.
+use Rattle.std.proofs.Common.{◌≡◌, ◌≢◌, ℕ, List, refl, sym, ap, ◌∙◌, subst, Ok, Err}
+use Rattle.config_types.specs.declared.config.Config.{Config}
+use Rattle.config_check.specs.Checked.{Checked}
 use Rattle.config_model.specs.Faults.{fault_of}
-use Rattle.compile_answers.specs.Answers.{DocumentAnswer, IsAnswered, answer_bad, answer_checked, answer_good, answer_not_json, answer_refused}
+use Rattle.compile_answers.specs.Answers as documents
+use Rattle.compile_answers.specs.Answers.{DocumentAnswer, IsAnswered, Taken, answer_bad, answer_good, answer_not_json, answer_refused}
+use Rattle.compile_answers.specs.Answers.{compile_taken, taken_from}
+use Rattle.ov_io.specs.Json.{json_of}
 use Rattle.compile_answers.specs.declared.unfit.Reception.{Reception}
 use Rattle.compile_answers.specs.declared.unfit.Reception.TheVariants.{Good}
 use Rattle.compile_answers.specs.declared.unfit.Unfit.{Unfit}
 use Rattle.compile_answers.specs.declared.unfit.Unfit.TheVariants.{NotJson, BadDocument, Refused, NoMemory}
-use Rattle.inspect_answers.specs.Answers.{Answer, IsUnfit, answer_unless, judged, verdict_of}
-use Rattle.inspect_answers.specs.Differences.{document_unless}
+use Rattle.inspect_answers.specs.Answers.{Answer, IsUnfit, judged, judged_by, verdict_of}
+use Rattle.inspect_answers.specs.Differences.{answered_by, to_document}
 
--- an answer that is good is no other
-not_good : (text : List ℕ) (answer : DocumentAnswer) → answer_good text ≡ answer → answer.verdict ≢ Good → ⊥
-not_good text answer e other = other (sym (ap (λ (a : DocumentAnswer). a.verdict) e))
+-- what is not fit is answered so, with the verdict on it
+pub unfit_judged : {A : Type 0} (u : Unfit) (r : Taken A) (answer : A → Answer) → documents.IsUnfit u r → IsUnfit u (judged_by answer r)
+unfit_judged u (Ok x) answer memory = subst (λ (v : Unfit). IsUnfit v (answer x)) (sym memory) tt
+unfit_judged NotJson (Err a) answer e = ap judged e
+unfit_judged (BadDocument f) (Err a) answer e = ap judged e
+unfit_judged (Refused s) (Err a) answer e = ap judged e
+unfit_judged NoMemory (Err a) answer e = tt
 
-pub unfit_anyway : (unfit : Unfit) (broken : Option Refusal) (answer : Answer)
-    → ((text : List ℕ) → IsAnswered unfit (answer_checked broken text)) → IsUnfit unfit (answer_unless broken answer)
-unfit_anyway NotJson (Some r) answer h = ap judged (h [])
-unfit_anyway (BadDocument f) (Some r) answer h = ap judged (h [])
-unfit_anyway (Refused s) (Some r) answer h = ap judged (h [])
-unfit_anyway NoMemory (Some r) answer h = tt
-unfit_anyway NotJson None answer h = absurd (not_good [] answer_not_json (h []) (λ e. cc))
-unfit_anyway (BadDocument f) None answer h = absurd (not_good [] (answer_bad (fault_of f)) (h []) (λ e. cc))
-unfit_anyway (Refused r) None answer h = absurd (not_good [] (answer_refused r) (h []) (λ e. cc))
-unfit_anyway NoMemory None answer h = tt
+unfit_taken : (u : Unfit) (r : Taken Checked) (answer : Config → DocumentAnswer) → documents.IsUnfit u r → IsAnswered u (answered_by answer r)
+unfit_taken u (Ok x) answer memory = subst (λ (v : Unfit). IsAnswered v (answer x.config)) (sym memory) tt
+unfit_taken u (Err a) answer answered = answered
 
--- the same of the answer without a verdict of `inspect`
-pub document_unfit_anyway : (unfit : Unfit) (broken : Option Refusal) (answer : DocumentAnswer)
-    → ((text : List ℕ) → IsAnswered unfit (answer_checked broken text)) → IsAnswered unfit (document_unless broken answer)
-document_unfit_anyway unfit (Some r) answer h = h []
-document_unfit_anyway NotJson None answer h = absurd (not_good [] answer_not_json (h []) (λ e. cc))
-document_unfit_anyway (BadDocument f) None answer h = absurd (not_good [] (answer_bad (fault_of f)) (h []) (λ e. cc))
-document_unfit_anyway (Refused r) None answer h = absurd (not_good [] (answer_refused r) (h []) (λ e. cc))
-document_unfit_anyway NoMemory None answer h = tt
+-- a document that is not fit is answered so, whatever would be answered to its configuration
+pub unfit_document : (u : Unfit) (octets : List ℕ) → documents.IsUnfit u (taken_from compile_taken (json_of octets)) → (answer : Config → DocumentAnswer)
+    → IsAnswered u (to_document answer octets)
+unfolding to_document
+unfit_document u octets unfit answer = unfit_taken u (taken_from compile_taken (json_of octets)) answer unfit
 
 -- the answer to what is not fit, without the verdict
 abbrev pub document : Unfit → Answer → DocumentAnswer

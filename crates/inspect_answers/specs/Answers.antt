@@ -1,31 +1,31 @@
 -- What is answered to a document.
-use Rattle.std.specs.Prelude.{◌≡◌, ℕ, List, [], Option, Some, None, is_none, Result, Ok, Err, ⊤, if◌then◌else◌}
+use Rattle.std.specs.Prelude.{◌≡◌, ℕ, List, [], Option, Some, None, is_none, Ok, Err, ⊤, if◌then◌else◌}
 use Rattle.std.specs.Io.KnownBytes.{Appends}
 use Rattle.serde_json.specs.Data.{Data}
 use Rattle.ov_io.specs.Json.{json_of}
 use Rattle.config_types.specs.declared.config.Config.{Config}
-use Rattle.config_model.specs.declared.input.CompileInput.{CompileInput}
-use Rattle.config_model.specs.declared.input.ReachInput.{ReachInput}
-use Rattle.config_model.specs.Faults.{Fault, fault_of}
-use Rattle.config_model.specs.Input.{compile_at, reach_at}
+use Rattle.config_model.specs.Faults.{fault_of}
+use Rattle.config_model.specs.Input.{reach_at}
 use Rattle.config_check.specs.Finding.{network_named}
-use Rattle.config_check.specs.Rules.{first_broken}
 use Rattle.config_check.specs.declared.refusal.Refusal.{Refusal}
 use Rattle.config_check.specs.declared.refusal.Refusal.TheVariants.{BadReference}
-use Rattle.compile_answers.specs.Answers.{DocumentAnswer, answer_bad, answer_checked, answer_good, answer_not_json, answer_refused}
+use Rattle.compile_answers.specs.Answers.{DocumentAnswer, Taken, answer_bad, answer_checked, answer_good, answer_not_json, answer_refused}
+use Rattle.compile_answers.specs.Answers.{compile_taken, taken_as, taken_from, taken_valid}
 use Rattle.compile_answers.specs.declared.unfit.Reception.{Reception}
 use Rattle.compile_answers.specs.declared.unfit.Reception.TheVariants as Received
 use Rattle.compile_answers.specs.declared.unfit.Unfit.{Unfit}
 use Rattle.compile_answers.specs.declared.unfit.Unfit.TheVariants as unfit
 use Rattle.hitless_answers.specs.Answers.{hitless_answer}
-use Rattle.inspect_answers.specs.Expectations.{ExpectInput, Expectation, expect_at}
+use Rattle.inspect_answers.specs.Expectations.{Expectation, expect_at}
 use Rattle.inspect_answers.specs.Expecting.{all_met, expect_in}
-use Rattle.inspect_answers.specs.Explained.{checked_of, why_in}
+use Rattle.inspect_answers.specs.Explained.{why_in}
 use Rattle.inspect_answers.specs.IdleLines.{idle_in}
 use Rattle.inspect_json.specs.WayLines.{ways_in}
 use Rattle.inspect_json.specs.declared.form.Form.{Form}
 use Rattle.inspect_answers.specs.declared.asked.Asked.{Asked}
 use Rattle.inspect_answers.specs.declared.asked.Asked.TheVariants as Asks
+use Rattle.inspect_answers.specs.declared.expecting.AskedExpectations.{AskedExpectations}
+use Rattle.inspect_answers.specs.declared.explaining.AskedReasons.{AskedReasons}
 use Rattle.inspect_changes.specs.declared.pairs.Pairs.{Pairs}
 use Rattle.inspect_changes.specs.declared.pairs.Pairs.TheVariants.{All, Between}
 use Rattle.inspect_answers.specs.declared.verdict.Verdict.{Verdict}
@@ -65,15 +65,10 @@ pub record WasGiven (answer : Answer) (verdict : Verdict) (old new : Option (Lis
   pub is : verdict ≡ answer.verdict
   pub taken : Appends old new answer.text
 
--- the answer to a document by what is answered to its value
-abbrev pub of_json : (Data → Answer) → Option Data → Answer
-of_json answer None = judged answer_not_json
-of_json answer (Some d) = answer d
-
--- a broken rule comes first
-abbrev pub answer_unless : Option Refusal → Answer → Answer
-answer_unless (Some r) answer = judged (answer_refused r)
-answer_unless None answer = answer
+-- what is answered to what is taken, or the one line of what is not fit, with the verdict on it
+abbrev pub judged_by : {A : Type 0} → (A → Answer) → Taken A → Answer
+judged_by answer (Ok x) = answer x
+judged_by answer (Err a) = judged a
 
 -- a network of this name is not there
 abbrev pub missing : Config → List ℕ → Option Refusal
@@ -92,18 +87,9 @@ missing_of (Between from to) c = first_missing (missing c from) (missing c to)
 abbrev pub valid_answer : Form → Pairs → Config → Answer
 valid_answer form pairs c = judged (answer_checked (missing_of pairs c) (ways_in form pairs c))
 
--- what `ways` answers to a topology and a configuration that were read, or not
-abbrev pub ways_reading : Form → Pairs → Result CompileInput Fault → Answer
-ways_reading form pairs (Err f) = judged (answer_bad f)
-ways_reading form pairs (Ok p) = answer_unless (first_broken p.topology p.config) (valid_answer form pairs p.config)
-
--- what `ways` answers to a value
-unfoldable pub ways_value : Form → Pairs → Data → Answer
-ways_value form pairs d = ways_reading form pairs (compile_at [] d)
-
--- what `inspect ways` answers to a document
+-- what `inspect ways` answers to a document, of which it takes what `compile` takes
 unfoldable pub ways_answer : Form → Pairs → List ℕ → Answer
-ways_answer form pairs octets = of_json (ways_value form pairs) (json_of octets)
+ways_answer form pairs octets = judged_by (λ v. valid_answer form pairs v.config) (taken_from compile_taken (json_of octets))
 
 -- what is expected of packets is met by each, or not
 abbrev pub expected_answer : Form → Config → List Expectation → Answer
@@ -112,46 +98,28 @@ expected_answer form c packets = record {
   text = expect_in form c packets;
 }
 
--- what `expect` answers to what was read for it, or not
-abbrev pub expect_reading : Form → Result ExpectInput Fault → Answer
-expect_reading form (Err f) = judged (answer_bad f)
-expect_reading form (Ok r) =
-    answer_unless (first_broken r.input.topology r.input.config) (expected_answer form r.input.config r.packets)
-
--- what `expect` answers to a value
-unfoldable pub expect_value : Form → Data → Answer
-expect_value form d = expect_reading form (expect_at [] d)
+-- `expect` takes packets of which something is expected
+unfoldable pub expect_taken : Data → Taken AskedExpectations
+expect_taken d = taken_as (λ r. taken_valid (λ x. record { valid = x; packets = r.packets }) r.input) (expect_at [] d)
 
 -- what `inspect expect` answers to a document
 unfoldable pub expect_answer : Form → List ℕ → Answer
-expect_answer form octets = of_json (expect_value form) (json_of octets)
+expect_answer form octets =
+    judged_by (λ q. expected_answer form q.valid.config q.packets) (taken_from expect_taken (json_of octets))
 
--- what decides nothing, or is not in use, of what was read for `unused`, or not
-abbrev pub unused_reading : Form → Result CompileInput Fault → Answer
-unused_reading form (Err f) = judged (answer_bad f)
-unused_reading form (Ok p) = answer_unless (first_broken p.topology p.config) (judged (answer_good (idle_in form p.config)))
-
--- what `unused` answers to a value
-unfoldable pub unused_value : Form → Data → Answer
-unused_value form d = unused_reading form (compile_at [] d)
-
--- what `inspect unused` answers to a document
+-- what `inspect unused` answers to a document, of which it takes what `compile` takes
 unfoldable pub unused_answer : Form → List ℕ → Answer
-unused_answer form octets = of_json (unused_value form) (json_of octets)
+unused_answer form octets =
+    judged_by (λ v. judged (answer_good (idle_in form v.config))) (taken_from compile_taken (json_of octets))
 
--- what becomes of packets, what that comes of, and their walks, of what was read for `why`, or not
-abbrev pub why_reading : Form → Result ReachInput Fault → Answer
-why_reading form (Err f) = judged (answer_bad f)
-why_reading form (Ok r) =
-    answer_unless (first_broken r.input.topology r.input.config) (judged (answer_good (why_in form (checked_of r) r.packets)))
-
--- what `why` answers to a value
-unfoldable pub why_value : Form → Data → Answer
-why_value form d = why_reading form (reach_at [] d)
+-- `why` takes packets, as `reach` does
+unfoldable pub why_taken : Data → Taken AskedReasons
+why_taken d = taken_as (λ r. taken_valid (λ x. record { valid = x; packets = r.packets }) r.input) (reach_at [] d)
 
 -- what `inspect why` answers to a document
 unfoldable pub why_answer : Form → List ℕ → Answer
-why_answer form octets = of_json (why_value form) (json_of octets)
+why_answer form octets =
+    judged_by (λ q. judged (answer_good (why_in form q.valid q.packets))) (taken_from why_taken (json_of octets))
 
 -- what is answered to a document
 abbrev pub answer : Asked → List ℕ → Answer

@@ -1,13 +1,11 @@
 -- What the answer of `diff` promises of packets between ports.
-use Rattle.std.specs.Prelude.{◌≡◌, ◌≢◌, ◌↔◌, ℕ, IsTrue, List, [], Option, None, Ok}
+use Rattle.std.specs.Prelude.{◌≡◌, ◌≢◌, ◌↔◌, ℕ, IsTrue, List, [], Option, None}
 use Rattle.std.specs.List.{Contains}
 use Rattle.std.specs.Io.KnownBytes.{Appends}
-use Rattle.serde_json.specs.Data.{Data}
 use Rattle.ov_types.specs.declared.packet.Packet.{Packet}
 use Rattle.ov_types.specs.declared.packet.Tuple.{Tuple}
 use Rattle.config_types.specs.Form.{has_config_form}
 use Rattle.config_types.specs.declared.config.Network.{Network}
-use Rattle.config_model.specs.Input.{compile_at}
 use Rattle.config_check.specs.Checked.{Checked}
 use Rattle.config_check.specs.Rules.{first_broken}
 use Rattle.policy_regions.specs.Parts.{IsTuple}
@@ -25,12 +23,6 @@ use Rattle.inspect_changes.specs.declared.fate.Difference.{Difference}
 use Rattle.inspect_changes.specs.declared.objects.Object.{Object}
 use Rattle.inspect_answers.specs.declared.top.Status.{Status}
 use Rattle.inspect_answers.specs.declared.top.Status.TheVariants as Ended
-
--- a value is of this topology and this configuration, which has the written form and is valid
-pub record IsValidAs (d : Data) (v : Checked) : Type 0 where
-  pub written : compile_at [] d ≡ Ok (record { topology = v.topology; config = v.config })
-  pub form : IsTrue (has_config_form v.config)
-  pub valid : first_broken v.topology v.config ≡ None
 
 -- the input is a document of this topology and this configuration, which has the written form and is valid
 pub record IsValidIn (octets : List ℕ) (v : Checked) : Type 0 where

@@ -1,15 +1,10 @@
 -- What is answered to two documents.
-use Rattle.std.specs.Prelude.{◌≡◌, ◌≢◌, ℕ, List, [], Option, Some, None, Result, Ok, Err, ⊤}
+use Rattle.std.specs.Prelude.{◌≡◌, ◌≢◌, ℕ, List, [], Option, Ok, Err, ⊤}
 use Rattle.std.specs.Io.KnownBytes.{Appends}
-use Rattle.serde_json.specs.Data.{Data}
 use Rattle.ov_io.specs.Json.{json_of}
 use Rattle.config_types.specs.declared.config.Config.{Config}
-use Rattle.config_model.specs.declared.input.CompileInput.{CompileInput}
-use Rattle.config_model.specs.Faults.{Fault}
-use Rattle.config_model.specs.Input.{compile_at}
-use Rattle.config_check.specs.Rules.{first_broken}
-use Rattle.config_check.specs.declared.refusal.Refusal.{Refusal}
-use Rattle.compile_answers.specs.Answers.{DocumentAnswer, answer_bad, answer_good, answer_refused, of_json}
+use Rattle.config_check.specs.Checked.{Checked}
+use Rattle.compile_answers.specs.Answers.{DocumentAnswer, Taken, answer_good, compile_taken, taken_from}
 use Rattle.compile_answers.specs.declared.unfit.Reception.{Reception}
 use Rattle.compile_answers.specs.declared.unfit.Reception.TheVariants.{Good}
 use Rattle.inspect_changes.specs.DifferenceLines.{diff_text}
@@ -18,22 +13,14 @@ use Rattle.inspect_json.specs.declared.form.Form.{Form}
 use Rattle.inspect_answers.specs.declared.diffing.Comparison.{Comparison}
 use Rattle.inspect_answers.specs.declared.diffing.Comparison.TheVariants as Found
 
--- a broken rule comes first
-abbrev pub document_unless : Option Refusal → DocumentAnswer → DocumentAnswer
-document_unless (Some r) answer = answer_refused r
-document_unless None answer = answer
-
--- what is answered to a topology and a configuration that were read, or not, where the configuration is valid
-abbrev pub reading : (Config → DocumentAnswer) → Result CompileInput Fault → DocumentAnswer
-reading answer (Err f) = answer_bad f
-reading answer (Ok p) = document_unless (first_broken p.topology p.config) (answer p.config)
-
-abbrev pub to_value : (Config → DocumentAnswer) → Data → DocumentAnswer
-to_value answer d = reading answer (compile_at [] d)
+-- what is answered to the configuration that is taken, or the one line of what is not fit
+abbrev pub answered_by : (Config → DocumentAnswer) → Taken Checked → DocumentAnswer
+answered_by answer (Ok x) = answer x.config
+answered_by answer (Err a) = a
 
 -- what is answered to a document of which the configuration is valid, or the one line of what is not fit
 unfoldable pub to_document : (Config → DocumentAnswer) → List ℕ → DocumentAnswer
-to_document answer octets = of_json (to_value answer) (json_of octets)
+to_document answer octets = answered_by answer (taken_from compile_taken (json_of octets))
 
 -- what `inspect diff` answers to two documents: the first of them that is not fit, or what differs
 abbrev pub diff_answer : List ℕ → List ℕ → DocumentAnswer

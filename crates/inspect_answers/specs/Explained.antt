@@ -1,12 +1,11 @@
 -- What is answered to `why`: the outcome of each packet, what it comes of, and its walk over compiled tables.
-use Rattle.std.specs.Prelude.{◌≡◌, ◌<◌, ◌^◌, ℕ, IsTrue, Bool, ◌+◌, List, [], ◌∷◌, ◌++◌, flat_map, length, slice_get, Option, Some, None, Ok}
+use Rattle.std.specs.Prelude.{◌≡◌, ◌<◌, ◌^◌, ℕ, Bool, ◌+◌, List, [], ◌∷◌, ◌++◌, flat_map, length, slice_get, Option, Some, None, Ok}
 use Rattle.std.specs.List.{Contains, list_all}
 use Rattle.std.specs.Io.KnownBytes.{Appends}
 use Rattle.serde_json.specs.Data.{Data}
 use Rattle.ov_io.specs.Json.{json_of}
 use Rattle.ov_types.specs.declared.packet.Outcome.{Outcome}
 use Rattle.ov_types.specs.declared.packet.Packet.{Packet}
-use Rattle.config_types.specs.Form.{has_config_form}
 use Rattle.config_types.specs.declared.config.Config.{Config}
 use Rattle.config_model.specs.Input.{reach_at}
 use Rattle.config_model.specs.declared.input.ReachInput.{ReachInput}
@@ -81,18 +80,6 @@ IsAskedIn octets r = (d : Data) × (json_of octets ≡ Some d) × (reach_at [] d
 -- the topology and the configuration that were read
 abbrev pub checked_of : ReachInput → Checked
 checked_of r = record { topology = r.input.topology; config = r.input.config }
-
--- a value is of this topology, this configuration, which has the written form and is valid, and these packets
-pub record IsAskedAs (d : Data) (v : Checked) (packets : List Packet) : Type 0 where
-  pub written : reach_at [] d ≡ Ok (record { input = record { topology = v.topology; config = v.config }; packets = packets })
-  pub form : IsTrue (has_config_form v.config)
-  pub valid : first_broken v.topology v.config ≡ None
-
--- the input is a document of these
-pub record IsAskedOf (octets : List ℕ) (v : Checked) (packets : List Packet) : Type 0 where
-  pub written : IsAskedIn octets (record { input = record { topology = v.topology; config = v.config }; packets = packets })
-  pub form : IsTrue (has_config_form v.config)
-  pub valid : first_broken v.topology v.config ≡ None
 
 -- the input has a valid configuration and packets, what is told of each packet was taken in the form that is asked for, in their
 -- order, and the JSON of each reads as what it says (of fewer than 2 ^ 64 packets)

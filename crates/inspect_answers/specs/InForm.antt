@@ -8,13 +8,10 @@ use Rattle.config_model.specs.Faults.{Fault}
 use Rattle.config_model.specs.Input.{compile_at}
 use Rattle.inspect_answers.specs.Expectations.{expect_at}
 
--- whatever a value is read as has a configuration of the written form
-unfoldable pub ReadsInForm : {Input : Type 0} → (Data → Result Input Fault) → (Input → Config) → Data → Type 0
-ReadsInForm {Input} read config d = (input : Input) → read d ≡ Ok input → IsTrue (has_config_form (config input))
-
 -- whatever octets are read as has a configuration of the written form, if they are JSON
 unfoldable pub AreInForm : {Input : Type 0} → (Data → Result Input Fault) → (Input → Config) → List ℕ → Type 0
-AreInForm read config octets = (d : Data) → json_of octets ≡ Some d → ReadsInForm read config d
+AreInForm {Input} read config octets =
+    (d : Data) → json_of octets ≡ Some d → (input : Input) → read d ≡ Ok input → IsTrue (has_config_form (config input))
 
 -- what octets are read as for `ways` and `unused`, and for `expect`, has a configuration of the written form
 abbrev pub AreWrittenInForm : List ℕ → Type 0

@@ -1,15 +1,9 @@
 //! The answer to a document.
-ghost use Rattle.std.specs.Prelude.{◌≡◌, IfOk, IfErr, OnErr, [], OnOk};
-ghost use Rattle.serde_json.specs.View.{view};
+ghost use Rattle.std.specs.Prelude.{◌≡◌, IfOk, OnErr};
 ghost use Rattle.ov_io.specs.Inputs.{TookFront};
 ghost use Rattle.ov_io.specs.Pieces.{HasWriteCause};
-ghost use Rattle.compile_answers.specs.Answers.{answer_good};
-ghost use Rattle.config_model.specs.Input.{compile_at};
-ghost use Rattle.inspect_answers.specs.InForm.{AreWrittenInForm, ReadsInForm};
-ghost use Rattle.inspect_answers.specs.Answers.{IsAnswer, IsUnfit, WasGiven, answer, judged, missing, missing_of};
-ghost use Rattle.inspect_answers.specs.Answers.{valid_answer, ways_answer, ways_value};
-ghost use Rattle.inspect_json.specs.WayLines.{ways_in};
-ghost use Rattle.inspect_json.specs.declared.form.Form.{Form as LineForm};
+ghost use Rattle.inspect_answers.specs.InForm.{AreWrittenInForm};
+ghost use Rattle.inspect_answers.specs.Answers.{IsAnswer, WasGiven, answer, missing, missing_of, ways_answer};
 ghost use Rattle.inspect_answers.specs.Runs.{Keeps, status_of};
 
 use crate::asked::Asked;
@@ -19,15 +13,13 @@ use crate::explaining::answer_why;
 use crate::idle_answer::answer_unused;
 use crate::verdict::{Verdict, answer_unfit};
 use crate::writing::write_all_ways;
-use compile_answers::{Unfit, valid_of};
+use compile_answers::{Unfit, read_question};
 use config_check::{Refusal, Valid, network_named};
-use config_model::{ReadRefusal, read_compile};
 use config_types::Config;
 use inspect_changes::Pairs;
 use inspect_json::Form;
-use ov_io::{Sink, WriteRefusal, value_of};
-use ov_types::{Name, NoMemory};
-use serde_json::Value;
+use ov_io::{Sink, WriteRefusal};
+use ov_types::Name;
 use std::alloc::Global;
 
 /// A network that is not there, as what is refused.
@@ -53,53 +45,8 @@ fn missing_of(pairs: &Pairs, config: &Config) -> Option<Refusal>
     }
 }
 
-/// A valid configuration that has the networks that are asked for.
-fn having(pairs: &Pairs, valid: Valid) -> Result<Valid, Unfit>
-    ensures fit { (form : LineForm)
-        → IfOk result (λ v. valid_answer form pairs.now valid.config ≡ judged (answer_good (ways_in form pairs.now v.config))) }
-    ensures unfit { (form : LineForm) → IfErr result (λ unfit. IsUnfit unfit (valid_answer form pairs.now valid.config)) }
-{
-    match missing_of(pairs, valid.config()) {
-        Some(refusal) => Err(Unfit::Refused(refusal)),
-        None => Ok(valid),
-    }
-}
-
-/// What is taken from a value.
-#[tactic(auto, using(crate::proofs::Unfitting::unfit_anyway), unfolding(crate::specs::Answers::ways_value))]
-fn ways_taken(alloc: Global, pairs: &Pairs, value: &Value) -> Result<Valid, Unfit>
-    ensures fit { (form : LineForm) → IfOk result (λ valid. ways_value form pairs.now (view value.now)
-        ≡ judged (answer_good (ways_in form pairs.now valid.config))) }
-    ensures unfit { (form : LineForm) → IfErr result (λ unfit. IsUnfit unfit (ways_value form pairs.now (view value.now))) }
-    ensures in_form { OnOk result (ReadsInForm (compile_at []) (λ p. p.config) (view value.now)) }
-{
-    match read_compile(alloc, value) {
-        Ok(input) => match valid_of(alloc, input) {
-            Ok(valid) => having(pairs, valid),
-            Err(unfit) => Err(unfit),
-        },
-        Err(ReadRefusal::Doc(fault)) => Err(Unfit::BadDocument(fault)),
-        Err(ReadRefusal::NoMemory) => Err(Unfit::NoMemory),
-    }
-}
-
-/// What is taken from an input.
-#[tactic(auto, using(crate::proofs::Formed::are_where_ok), unfolding(crate::specs::Answers::ways_answer))]
-fn ways_asked(alloc: Global, pairs: &Pairs, octets: &[u8]) -> Result<Valid, Unfit>
-    ensures fit { (form : LineForm) → IfOk result (λ valid. ways_answer form pairs.now octets.now
-        ≡ judged (answer_good (ways_in form pairs.now valid.config))) }
-    ensures unfit { (form : LineForm) → IfErr result (λ unfit. IsUnfit unfit (ways_answer form pairs.now octets.now)) }
-    ensures in_form { OnOk result (AreWrittenInForm octets.now) }
-{
-    match value_of(alloc, octets) {
-        Ok(Some(value)) => ways_taken(alloc, pairs, &value),
-        Ok(None) => Err(Unfit::NotJson),
-        Err(NoMemory) => Err(Unfit::NoMemory),
-    }
-}
-
 /// Writes the ways that are asked for of an input.
-#[tactic(auto, using(crate::proofs::Formed::where_answered, crate::proofs::Formed::never_answered))]
+#[tactic(auto, using(crate::proofs::Unfitting::unfit_judged, crate::proofs::Formed::never_answered), unfolding(crate::specs::Answers::ways_answer))]
 fn answer_ways<K: Sink>(
     alloc: Global,
     form: Form,
@@ -114,11 +61,14 @@ fn answer_ways<K: Sink>(
     ensures cause { HasWriteCause (K.faults sink.old) (K.faults sink.new) result }
     ensures in_form { IfOk result (λ verdict. IsAnswer verdict → AreWrittenInForm octets.now) }
 {
-    match ways_asked(alloc, pairs, octets) {
-        Ok(valid) => {
-            write_all_ways(alloc, form, pairs, &valid, sink)?;
-            Ok(Verdict::Good)
-        }
+    match read_question::<Valid>(alloc, octets) {
+        Ok(valid) => match missing_of(pairs, valid.config()) {
+            Some(refusal) => answer_unfit(alloc, Unfit::Refused(refusal), sink),
+            None => {
+                write_all_ways(alloc, form, pairs, &valid, sink)?;
+                Ok(Verdict::Good)
+            }
+        },
         Err(unfit) => answer_unfit(alloc, unfit, sink),
     }
 }

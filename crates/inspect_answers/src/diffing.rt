@@ -1,14 +1,12 @@
 //! What is answered to two documents, one before a change and one after.
-ghost use Rattle.std.specs.Prelude.{◌≡◌, ◌++◌, [], ℕ, List, IfOk, IfErr, OnOk, OnErr};
+ghost use Rattle.std.specs.Prelude.{◌≡◌, ◌++◌, [], ℕ, List, IfOk, OnOk, OnErr};
 ghost use Rattle.std.specs.Io.KnownBytes.{Appends};
-ghost use Rattle.serde_json.specs.View.{view};
 ghost use Rattle.ov_io.specs.Inputs.{TookFront};
 ghost use Rattle.ov_io.specs.Pieces.{HasWriteCause, IsOnItsWay};
-ghost use Rattle.config_types.specs.declared.config.Config.{Config as Configuration};
-ghost use Rattle.compile_answers.specs.Answers.{DocumentAnswer, IsAnswered, answer_good};
-ghost use Rattle.inspect_answers.specs.Changes.{IsValidAs, IsValidIn, TookDifferences};
+ghost use Rattle.compile_answers.specs.Answers.{AreReadAs, DocumentAnswer, IsAnswered, answer_good, input_of};
+ghost use Rattle.inspect_answers.specs.Changes.{TookDifferences};
 ghost use Rattle.inspect_answers.specs.Differences.{IsOfAfter, IsOfBefore, IsWhich, IsWhichAfter, SaysWhether, WasSaid};
-ghost use Rattle.inspect_answers.specs.Differences.{diff_answer, diff_answer_in, to_document, to_value};
+ghost use Rattle.inspect_answers.specs.Differences.{diff_answer, diff_answer_in, to_document};
 ghost use Rattle.inspect_changes.specs.DifferenceLines.{diff_text, lists_text};
 ghost use Rattle.inspect_changes.specs.Fates.{all_differences};
 ghost use Rattle.inspect_changes.specs.Objects.{gone};
@@ -17,14 +15,12 @@ ghost use Rattle.inspect_answers.specs.Runs.{IsAnswered as IsEndOfAnswer};
 ghost use Rattle.inspect_answers.specs.TwoRuns.{status_found};
 
 use crate::writing::write_each;
-use compile_answers::{Reception, Unfit, valid_of, write_unfit};
+use compile_answers::{Reception, Unfit, read_question, write_unfit};
 use config_check::Valid;
-use config_model::{ReadRefusal, read_compile};
 use inspect_changes::{Difference, Object, all_differences, gone};
 use inspect_json::{CameIn, DifferencesIn, Form, WentIn};
-use ov_io::{Sink, TextOut, WriteRefusal, value_of, write_gathered};
+use ov_io::{Sink, TextOut, WriteRefusal, write_gathered};
 use ov_types::NoMemory;
-use serde_json::Value;
 use std::alloc::Global;
 
 /// What two documents are found to be.
@@ -35,38 +31,6 @@ pub enum Comparison {
     Differs,
     UnfitBefore(Reception),
     UnfitAfter(Reception),
-}
-
-/// The valid configuration of a value.
-#[tactic(auto, using(crate::proofs::Unfitting::document_unfit_anyway))]
-fn valid_in(alloc: Global, value: &Value) -> Result<Valid, Unfit>
-    ensures fit { IfOk result (λ valid. (answer : Configuration → DocumentAnswer)
-        → to_value answer (view value.now) ≡ answer valid.config) }
-    ensures unfit { IfErr result (λ unfit. (answer : Configuration → DocumentAnswer)
-        → IsAnswered unfit (to_value answer (view value.now))) }
-    ensures read { IfOk result (λ valid. IsValidAs (view value.now) valid) }
-{
-    match read_compile(alloc, value) {
-        Ok(input) => valid_of(alloc, input),
-        Err(ReadRefusal::Doc(fault)) => Err(Unfit::BadDocument(fault)),
-        Err(ReadRefusal::NoMemory) => Err(Unfit::NoMemory),
-    }
-}
-
-/// The valid configuration of a document.
-#[tactic(auto, unfolding(crate::specs::Differences::to_document))]
-fn valid_from(alloc: Global, octets: &[u8]) -> Result<Valid, Unfit>
-    ensures fit { IfOk result (λ valid. (answer : Configuration → DocumentAnswer)
-        → to_document answer octets.now ≡ answer valid.config) }
-    ensures unfit { IfErr result (λ unfit. (answer : Configuration → DocumentAnswer)
-        → IsAnswered unfit (to_document answer octets.now)) }
-    ensures read { IfOk result (λ valid. IsValidIn octets.now valid) }
-{
-    match value_of(alloc, octets) {
-        Ok(Some(value)) => valid_in(alloc, &value),
-        Ok(None) => Err(Unfit::NotJson),
-        Err(NoMemory) => Err(Unfit::NoMemory),
-    }
 }
 
 /// What differs between two configurations: the objects that went and those that came, and then what becomes of packets.
@@ -181,7 +145,7 @@ fn write_differences<K: Sink>(
     ensures front { OnErr result (TookFront (K.taken sink.old) (K.taken sink.new)
         (diff_in form before.now.config after.now.config)) }
     ensures cause { HasWriteCause (K.faults sink.old) (K.faults sink.new) result }
-    ensures promise { (first second : List ℕ) → IsValidIn first before.now → IsValidIn second after.now
+    ensures promise { (first second : List ℕ) → AreReadAs first (input_of before.now) → AreReadAs second (input_of after.now)
         → IfOk result (λ found. TookDifferences form (status_found found) first second (K.taken sink.old) (K.taken sink.new)) }
 {
     let found = find(alloc, before, after)?;
@@ -231,6 +195,7 @@ fn write_unfit_after<K: Sink>(
 }
 
 /// Writes what is answered to a document that is compared with a valid configuration before.
+#[tactic(auto, using(crate::proofs::Unfitting::unfit_document), unfolding(crate::specs::Differences::to_document))]
 fn answer_after<K: Sink>(
     alloc: Global,
     form: Form,
@@ -246,10 +211,10 @@ fn answer_after<K: Sink>(
     ensures front { OnErr result (TookFront (K.taken sink.old) (K.taken sink.new)
         (to_document (λ d. answer_good (diff_in form before.now.config d)) after.now).text) }
     ensures cause { HasWriteCause (K.faults sink.old) (K.faults sink.new) result }
-    ensures promise { (first : List ℕ) → IsValidIn first before.now → IfOk result (λ found. IsEndOfAnswer (status_found found)
+    ensures promise { (first : List ℕ) → AreReadAs first (input_of before.now) → IfOk result (λ found. IsEndOfAnswer (status_found found)
         → TookDifferences form (status_found found) first after.now (K.taken sink.old) (K.taken sink.new)) }
 {
-    match valid_from(alloc, after) {
+    match read_question::<Valid>(alloc, after) {
         Ok(valid) => write_differences(alloc, form, before, &valid, sink),
         Err(unfit) => write_unfit_after(alloc, unfit, sink),
     }
@@ -257,6 +222,7 @@ fn answer_after<K: Sink>(
 
 /// Writes what `inspect diff` answers to two documents, one before a change and one after: the lines of what differs, or
 /// the one line of the first of them that is not fit.
+#[tactic(auto, using(crate::proofs::Unfitting::unfit_document), unfolding(crate::specs::Differences::to_document))]
 pub(crate) fn answer_diff<K: Sink>(
     alloc: Global,
     form: Form,
@@ -273,7 +239,7 @@ pub(crate) fn answer_diff<K: Sink>(
     ensures promise { IfOk result (λ found. IsEndOfAnswer (status_found found)
         → TookDifferences form (status_found found) before.now after.now (K.taken sink.old) (K.taken sink.new)) }
 {
-    match valid_from(alloc, before) {
+    match read_question::<Valid>(alloc, before) {
         Ok(valid) => answer_after(alloc, form, &valid, after, sink),
         Err(unfit) => write_unfit_before(alloc, unfit, sink),
     }

@@ -1,26 +1,25 @@
 //! The answer of `expect`.
-ghost use Rattle.std.specs.Prelude.{◌≡◌, ◌≤◌, ◌∷◌, ◌++◌, [], IfOk, IfErr, OnErr, OnOk};
-ghost use Rattle.serde_json.specs.View.{view};
+ghost use Rattle.std.specs.Prelude.{◌≡◌, ◌≤◌, ◌∷◌, ◌++◌, [], Ok, IfOk, OnErr, IsTrue};
 ghost use Rattle.ov_io.specs.Inputs.{TookFront};
 ghost use Rattle.ov_io.specs.Pieces.{HasWriteCause, IsOnItsWay};
 ghost use Rattle.inspect_answers.specs.Expectations.{expect_at};
-ghost use Rattle.inspect_answers.specs.InForm.{AreExpectedInForm, ReadsInForm};
-ghost use Rattle.inspect_answers.specs.Answers.{IsAnswer, IsUnfit, WasGiven, expect_answer, expect_value, expected_answer};
+ghost use Rattle.config_types.specs.Form.{has_config_form};
+ghost use Rattle.compile_answers.specs.Answers.{input_of};
+ghost use Rattle.inspect_answers.specs.InForm.{AreExpectedInForm};
+ghost use Rattle.inspect_answers.specs.Answers.{IsAnswer, WasGiven, expect_answer, expect_taken, expected_answer};
 ghost use Rattle.inspect_answers.specs.Expecting as expecting;
 ghost use Rattle.inspect_answers.specs.Expecting.{drop_is_met, expect_in, unmet_count};
 ghost use Rattle.inspect_answers.specs.Expecting.{unmet_from, unmet_in};
-ghost use Rattle.inspect_json.specs.declared.form.Form.{Form as LineForm};
 
 use crate::expect_lines::{CountsLines, UnmetLines};
 use crate::expect_reader::read_expect;
 use crate::expectation::{ExpectInput, Expectation, Expected};
 use crate::verdict::{Verdict, answer_unfit};
-use compile_answers::{Unfit, valid_of, write_one};
+use compile_answers::{Question, Unfit, read_question, valid_of, write_one};
 use config_check::Valid;
-use config_model::ReadRefusal;
 use inspect_json::Form;
-use ov_io::{Sink, TextOut, WriteRefusal, value_of, write_gathered};
-use ov_types::{Items, NoMemory, Outcome, Why};
+use ov_io::{Sink, TextOut, WriteRefusal, write_gathered};
+use ov_types::{Items, Outcome, Why};
 use reach_plain::reach;
 use serde_json::Value;
 use std::alloc::Global;
@@ -150,46 +149,31 @@ fn write_expected<K: Sink>(
 
 /// Packets of which something is expected, and the valid configuration that decides them.
 #[derive(Drop)]
-struct Question {
+struct AskedExpectations {
     valid: Valid,
     packets: Items<Expectation>,
 }
 
-/// What `expect` takes from a value.
-#[tactic(auto, using(crate::proofs::Unfitting::unfit_anyway), unfolding(crate::specs::Answers::expect_value))]
-fn expect_taken(alloc: Global, value: &Value) -> Result<Question, Unfit>
-    ensures fit { (form : LineForm) → IfOk result (λ asked. expect_value form (view value.now)
-        ≡ expected_answer form asked.valid.config asked.packets) }
-    ensures unfit { (form : LineForm) → IfErr result (λ unfit. IsUnfit unfit (expect_value form (view value.now))) }
-    ensures in_form { OnOk result (ReadsInForm (expect_at []) (λ r. r.input.config) (view value.now)) }
-{
-    match read_expect(alloc, value) {
-        Ok(ExpectInput { input, packets }) => match valid_of(alloc, input) {
-            Ok(valid) => Ok(Question { valid, packets }),
-            Err(unfit) => Err(unfit),
-        },
-        Err(ReadRefusal::Doc(fault)) => Err(Unfit::BadDocument(fault)),
-        Err(ReadRefusal::NoMemory) => Err(Unfit::NoMemory),
-    }
-}
+impl Question for AskedExpectations {
+    ghost taken = { expect_taken };
 
-/// What `expect` takes from an input.
-#[tactic(auto, using(crate::proofs::Formed::are_where_ok), unfolding(crate::specs::Answers::expect_answer))]
-fn expect_asked(alloc: Global, octets: &[u8]) -> Result<Question, Unfit>
-    ensures fit { (form : LineForm)
-        → IfOk result (λ asked. expect_answer form octets.now ≡ expected_answer form asked.valid.config asked.packets) }
-    ensures unfit { (form : LineForm) → IfErr result (λ unfit. IsUnfit unfit (expect_answer form octets.now)) }
-    ensures in_form { OnOk result (AreExpectedInForm octets.now) }
-{
-    match value_of(alloc, octets) {
-        Ok(Some(value)) => expect_taken(alloc, &value),
-        Ok(None) => Err(Unfit::NotJson),
-        Err(NoMemory) => Err(Unfit::NoMemory),
+    ghost reads = { λ d asked. expect_at [] d
+        ≡ Ok (record { input = input_of asked.valid; packets = asked.packets }) };
+
+    ghost form = { λ asked. IsTrue (has_config_form asked.valid.config) };
+
+    #[tactic(auto, using(compile_answers::proofs::Unfitting::fault_unfit, compile_answers::proofs::Unfitting::rule_unfit), unfolding(crate::specs::Answers::expect_taken))]
+    fn from_value(alloc: Global, value: &Value) -> Result<Self, Unfit> {
+        let ExpectInput { input, packets } = read_expect(alloc, value)?;
+        match valid_of(alloc, input) {
+            Ok(valid) => Ok(AskedExpectations { valid, packets }),
+            Err(unfit) => Err(unfit),
+        }
     }
 }
 
 /// Writes what `expect` answers to an input.
-#[tactic(auto, using(crate::proofs::Formed::where_answered, crate::proofs::Formed::never_answered))]
+#[tactic(auto, using(crate::proofs::Unfitting::unfit_judged, crate::proofs::Formed::never_answered), unfolding(crate::specs::Answers::expect_answer))]
 pub(crate) fn answer_expect<K: Sink>(
     alloc: Global,
     form: Form,
@@ -202,8 +186,10 @@ pub(crate) fn answer_expect<K: Sink>(
     ensures cause { HasWriteCause (K.faults sink.old) (K.faults sink.new) result }
     ensures in_form { IfOk result (λ verdict. IsAnswer verdict → AreExpectedInForm octets.now) }
 {
-    match expect_asked(alloc, octets) {
-        Ok(asked) => write_expected(alloc, form, &asked.valid, asked.packets.as_slice(), sink),
+    match read_question::<AskedExpectations>(alloc, octets) {
+        Ok(AskedExpectations { valid, packets }) => {
+            write_expected(alloc, form, &valid, packets.as_slice(), sink)
+        }
         Err(unfit) => answer_unfit(alloc, unfit, sink),
     }
 }

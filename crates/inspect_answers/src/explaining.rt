@@ -1,32 +1,33 @@
 //! The answer of `why`.
-ghost use Rattle.std.specs.Prelude.{◌≡◌, ◌++◌, [], IfOk, IfErr, OnOk, OnErr, IsTrue};
+ghost use Rattle.std.specs.Prelude.{◌≡◌, ◌++◌, [], None, Ok, IfOk, OnOk, OnErr, IsTrue};
 ghost use Rattle.std.specs.Io.KnownBytes.{Appends};
 ghost use Rattle.std.specs.List.{list_all};
-ghost use Rattle.serde_json.specs.View.{view};
 ghost use Rattle.ov_io.specs.Inputs.{TookFront};
 ghost use Rattle.ov_io.specs.Pieces.{HasWriteCause, IsOnItsWay};
-ghost use Rattle.compile_answers.specs.Answers.{answer_good};
-ghost use Rattle.inspect_json.specs.declared.form.Form.{Form as LineForm};
+ghost use Rattle.config_types.specs.Form.{has_config_form};
+ghost use Rattle.config_model.specs.Input.{reach_at};
+ghost use Rattle.config_check.specs.Rules.{first_broken};
+ghost use Rattle.compile_answers.specs.Answers.{input_of};
 ghost use Rattle.inspect_rules.specs.CauseLines.{cause_line};
 ghost use Rattle.inspect_walks.specs.Lines.{step_line};
 ghost use Rattle.inspect_walks.specs.TransformModel.Compiled.{compiled_tables};
 ghost use Rattle.inspect_walks.specs.Walks.{compiled_agents};
-ghost use Rattle.inspect_answers.specs.Answers.{IsAnswer, IsUnfit, WasGiven, judged, why_answer, why_value};
-ghost use Rattle.inspect_answers.specs.Explained.{IsAskedAs, IsAskedOf, TookExplained, explained_in, explained_text};
+ghost use Rattle.inspect_answers.specs.Answers.{IsAnswer, WasGiven, why_answer, why_taken};
+ghost use Rattle.inspect_answers.specs.Explained.{TookExplained, explained_in, explained_text};
 ghost use Rattle.inspect_answers.specs.Explained.{has_walk_size, packet_in, packets_from, why_in};
 ghost use Rattle.inspect_answers.specs.Runs.{status_of};
 ghost use Rattle.inspect_answers.specs.declared.top.Status.TheVariants as Ended;
 
 use crate::verdict::{Verdict, answer_unfit};
 use crate::writing::write_each;
-use compile_answers::{Unfit, valid_of, write_one};
+use compile_answers::{Question, Unfit, read_question, valid_of, write_one};
 use config_check::Valid;
-use config_model::{ReachInput, ReadRefusal, read_reach};
+use config_model::{ReachInput, read_reach};
 use inspect_changes::LinesOf;
 use inspect_json::{ExplainedJson, Form};
 use inspect_rules::{Cause, CauseText, causes_of};
 use inspect_walks::{Compiled, StepText, TableAgent, ToldStep, agents_of, compiled, walk_of};
-use ov_io::{Sink, TextOut, WriteRefusal, value_of, write_gathered};
+use ov_io::{Sink, TextOut, WriteRefusal, write_gathered};
 use ov_types::{Items, NoMemory, Outcome, Packet};
 use reach_plain::reach;
 use report::OutcomeLines;
@@ -245,46 +246,32 @@ fn write_why<K: Sink>(
 
 /// Packets, and the valid configuration that decides them.
 #[derive(Drop)]
-struct Question {
+struct AskedReasons {
     valid: Valid,
     packets: Items<Packet>,
 }
 
-/// What `why` takes from a value.
-#[tactic(auto, using(crate::proofs::Unfitting::unfit_anyway), unfolding(crate::specs::Answers::why_value))]
-fn why_taken(alloc: Global, value: &Value) -> Result<Question, Unfit>
-    ensures fit { (form : LineForm) → IfOk result (λ asked. why_value form (view value.now)
-        ≡ judged (answer_good (why_in form asked.valid asked.packets))) }
-    ensures unfit { (form : LineForm) → IfErr result (λ unfit. IsUnfit unfit (why_value form (view value.now))) }
-    ensures read { IfOk result (λ asked. IsAskedAs (view value.now) asked.valid asked.packets) }
-{
-    match read_reach(alloc, value) {
-        Ok(ReachInput { input, packets }) => match valid_of(alloc, input) {
-            Ok(valid) => Ok(Question { valid, packets }),
-            Err(unfit) => Err(unfit),
-        },
-        Err(ReadRefusal::Doc(fault)) => Err(Unfit::BadDocument(fault)),
-        Err(ReadRefusal::NoMemory) => Err(Unfit::NoMemory),
-    }
-}
+impl Question for AskedReasons {
+    ghost taken = { why_taken };
 
-/// What `why` takes from an input.
-#[tactic(auto, unfolding(crate::specs::Answers::why_answer))]
-fn why_asked(alloc: Global, octets: &[u8]) -> Result<Question, Unfit>
-    ensures fit { (form : LineForm) → IfOk result (λ asked. why_answer form octets.now
-        ≡ judged (answer_good (why_in form asked.valid asked.packets))) }
-    ensures unfit { (form : LineForm) → IfErr result (λ unfit. IsUnfit unfit (why_answer form octets.now)) }
-    ensures read { IfOk result (λ asked. IsAskedOf octets.now asked.valid asked.packets) }
-{
-    match value_of(alloc, octets) {
-        Ok(Some(value)) => why_taken(alloc, &value),
-        Ok(None) => Err(Unfit::NotJson),
-        Err(NoMemory) => Err(Unfit::NoMemory),
+    ghost reads = { λ d asked. reach_at [] d
+        ≡ Ok (record { input = input_of asked.valid; packets = asked.packets }) };
+
+    ghost form = { λ asked. IsTrue (has_config_form asked.valid.config)
+        × (first_broken asked.valid.topology asked.valid.config ≡ None) };
+
+    #[tactic(auto, using(compile_answers::proofs::Unfitting::fault_unfit, compile_answers::proofs::Unfitting::rule_unfit), unfolding(crate::specs::Answers::why_taken))]
+    fn from_value(alloc: Global, value: &Value) -> Result<Self, Unfit> {
+        let ReachInput { input, packets } = read_reach(alloc, value)?;
+        match valid_of(alloc, input) {
+            Ok(valid) => Ok(AskedReasons { valid, packets }),
+            Err(unfit) => Err(unfit),
+        }
     }
 }
 
 /// Writes what `why` answers to an input.
-#[tactic(auto, using(crate::proofs::TookReasons::took_explained))]
+#[tactic(auto, using(crate::proofs::Unfitting::unfit_judged), unfolding(crate::specs::Answers::why_answer))]
 pub(crate) fn answer_why<K: Sink>(
     alloc: Global,
     form: Form,
@@ -298,9 +285,9 @@ pub(crate) fn answer_why<K: Sink>(
     ensures promise { IfOk result (λ verdict. IsAnswer verdict
         → (status_of verdict ≡ Ended.Done) × TookExplained form octets.now (K.taken sink.old) (K.taken sink.new)) }
 {
-    match why_asked(alloc, octets) {
-        Ok(asked) => {
-            write_why(alloc, form, &asked.valid, asked.packets.as_slice(), sink)?;
+    match read_question::<AskedReasons>(alloc, octets) {
+        Ok(AskedReasons { valid, packets }) => {
+            write_why(alloc, form, &valid, packets.as_slice(), sink)?;
             Ok(Verdict::Good)
         }
         Err(unfit) => answer_unfit(alloc, unfit, sink),
