@@ -6,6 +6,7 @@ use Rattle.std.specs.declared.result.Result.{Result}
 use Rattle.std.specs.declared.result.Result.TheVariants.{Ok, Err}
 use Rattle.std.specs.Io.KnownBytes.{Appends}
 use Rattle.config_check.specs.Checked.{Checked}
+use Rattle.compile_answers.specs.Answers.{AreReadAs, input_of}
 use Rattle.compile_answers.specs.declared.unfit.Reception.{Reception}
 use Rattle.compile_answers.specs.declared.unfit.Reception.TheVariants.{Good}
 use Rattle.ov_io.specs.declared.pieces.WriteRefusal.{WriteRefusal}
@@ -21,7 +22,7 @@ use Rattle.net_machine.proofs.RunningLaws.HeardAtRest.{all_hear}
 use Rattle.net_machine.specs.RunningLaws.Moments.{IsMoment}
 use Rattle.net_machine.proofs.RunningLaws.Moments.{moment_of}
 use Rattle.top_call.specs.Constraint.{constrain_text, settling}
-use Rattle.top_call.specs.ConstraintNetworks.{HasSettled, IsLeftSettled, IsReadAs, NoneNeedsMore, TookConstraint, input_of}
+use Rattle.top_call.specs.ConstraintNetworks.{HasSettled, IsLeftSettled, NoneNeedsMore, TookConstraint}
 
 -- the state after one settling
 once : (x : Checked) → IsWritten (opening x) → IsMoment (moment x settling)
@@ -33,11 +34,11 @@ settled_once x written = (written_settle_settles message_size positive x written
 
 -- the network that has settled
 pub left_settled : (octets : List ℕ) (x : Checked) (n : NetState) (left : Option NetState)
-    → IsReadAs octets (input_of x) → HasSettled x n → left ≡ Some n → IsLeftSettled octets left
+    → AreReadAs octets (input_of x) → HasSettled x n → left ≡ Some n → IsLeftSettled octets left
 left_settled octets x n left read has is = record { input = input_of x; read = read; net = n; is_left = is; settled = has }
 
 -- what was written of it
-pub constraint_promised : (octets : List ℕ) (old new : Option (List ℕ)) (x : Checked) → IsReadAs octets (input_of x)
+pub constraint_promised : (octets : List ℕ) (old new : Option (List ℕ)) (x : Checked) → AreReadAs octets (input_of x)
     → IsWritten (opening x) → Appends old new (constrain_text x) → NoneNeedsMore (moment x settling)
     → TookConstraint octets old new
 constraint_promised octets old new x read written taken enough = record {

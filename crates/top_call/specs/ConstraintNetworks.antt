@@ -1,16 +1,14 @@
 -- What `constrain` leaves behind and promises.
-use Rattle.std.specs.Prelude.{◌≡◌, ℕ, List, [], false, true}
+use Rattle.std.specs.Prelude.{◌≡◌, ℕ, List, false, true}
 use Rattle.std.specs.declared.option.Option.{Option}
 use Rattle.std.specs.declared.option.Option.TheVariants.{Some}
-use Rattle.std.specs.declared.result.Result.TheVariants.{Ok}
 use Rattle.std.specs.Io.KnownBytes.{Appends}
 use Rattle.std.specs.List.{AllByRecursion}
-use Rattle.serde_json.specs.Data.{Data}
 use Rattle.ov_types.specs.declared.numbers.InstanceId.{InstanceId}
 use Rattle.ov_types.specs.declared.rows.NodeId.{NodeId}
 use Rattle.config_check.specs.Checked.{Checked}
 use Rattle.config_model.specs.declared.input.CompileInput.{CompileInput}
-use Rattle.config_model.specs.Input.{compile_at}
+use Rattle.compile_answers.specs.Answers.{AreReadAs}
 use Rattle.node_model.specs.Members.{Member}
 use Rattle.node_model.specs.Paths.{Holdings, Told}
 use Rattle.node_model.specs.Tables.{table}
@@ -20,7 +18,6 @@ use Rattle.machine_model.specs.Steps.{is_settled}
 use Rattle.net_machine.specs.RunningNodes.Stands.{StandsFor, moment}
 use Rattle.net_machine.specs.Looking.{held_at}
 use Rattle.net_machine.specs.NetState.{NetState}
-use Rattle.ov_io.specs.Json.{json_of}
 use Rattle.net_machine.specs.RunningLaws.Peering.{AllHearTheirPeers}
 use Rattle.rt_constrain.specs.Asking.{cut}
 use Rattle.rt_constrain.specs.Needed.{needed}
@@ -29,16 +26,6 @@ use Rattle.top_call.specs.Constraint.{constrain_text, settling}
 -- the configuration of an input, with its topology
 abbrev pub setup_of : CompileInput → Checked
 setup_of p = record { topology = p.topology; config = p.config }
-
--- an input with this configuration
-abbrev pub input_of : Checked → CompileInput
-input_of x = record { topology = x.topology; config = x.config }
-
--- octets that are a document which `constrain` reads so
-pub record IsReadAs (octets : List ℕ) (p : CompileInput) : Type 0 where
-  pub value : Data
-  pub json : json_of octets ≡ Some value
-  pub read : compile_at [] value ≡ Ok p
 
 -- a network with this configuration has settled, and did nothing else
 pub record HasSettled (x : Checked) (n : NetState) : Type 0 where
@@ -50,7 +37,7 @@ pub record HasSettled (x : Checked) (n : NetState) : Type 0 where
 -- the network that `constrain` leaves of a document
 pub record IsLeftSettled (octets : List ℕ) (left : Option NetState) : Type 0 where
   pub input : CompileInput
-  pub read : IsReadAs octets input
+  pub read : AreReadAs octets input
   pub net : NetState
   pub is_left : left ≡ Some net
   pub settled : HasSettled (setup_of input) net
@@ -74,7 +61,7 @@ NoneNeedsMore w = EachNeedsNoMore w w.setup.topology.controllers
 -- would tell it, and needs no more of that than it asks
 pub record TookConstraint (octets : List ℕ) (old new : Option (List ℕ)) : Type 0 where
   pub input : CompileInput
-  pub read : IsReadAs octets input
+  pub read : AreReadAs octets input
   pub taken : Appends old new (constrain_text (setup_of input))
   pub settled : is_settled (moment (setup_of input) settling) ≡ true
   pub heard : AllHearTheirPeers (moment (setup_of input) settling)

@@ -4,14 +4,13 @@ use Rattle.std.specs.declared.option.Option.{Option}
 use Rattle.std.specs.declared.option.Option.TheVariants.{Some}
 use Rattle.std.specs.declared.result.Result.TheVariants.{Ok}
 use Rattle.std.specs.Io.KnownBytes.{Appends}
-use Rattle.serde_json.specs.Data.{Data}
 use Rattle.config_check.specs.Checked.{Checked}
 use Rattle.config_types.specs.declared.event.Event.{Event}
 use Rattle.config_model.specs.declared.input.RunInput.{RunInput}
 use Rattle.config_model.specs.Event.{run_at}
+use Rattle.compile_answers.specs.Answers.{AreDocument}
 use Rattle.net_machine.specs.NetState.{NetState}
 use Rattle.net_machine.specs.Taken.{HasTaken}
-use Rattle.ov_io.specs.Json.{json_of}
 use Rattle.net_machine.specs.MachineMomentLaws.TiedCompiled.{AreAsCompiled}
 use Rattle.net_machine.specs.MachineMomentLaws.Isolated.{IsIsolated}
 use Rattle.net_machine.specs.MachineMomentLaws.Runs.{answers}
@@ -30,10 +29,8 @@ abbrev pub input_of : Checked → List Event → RunInput
 input_of x es = record { input = record { topology = x.topology; config = x.config }; events = es }
 
 -- octets that are a document which `run` reads so
-pub record AreReadAs (octets : List ℕ) (r : RunInput) : Type 0 where
-  pub value : Data
-  pub json : json_of octets ≡ Some value
-  pub read : run_at [] value ≡ Ok r
+abbrev pub AreReadAs : List ℕ → RunInput → Type 0
+AreReadAs octets r = AreDocument octets (λ d. run_at [] d ≡ Ok r)
 
 -- the network that `run` leaves of a document
 pub record IsLeftOf (octets : List ℕ) (left : Option NetState) : Type 0 where

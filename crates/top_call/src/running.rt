@@ -1,8 +1,7 @@
 //! Writing what `run` writes: a network takes the events in turn, and each answer is handed on as it comes.
-ghost use Rattle.std.specs.Prelude.{◌≡◌, ◌+◌, ◌++◌, ◌∷◌, [], length, Ok, false, IfOk, IfErr, OnOk, OnErr, IsTrue};
+ghost use Rattle.std.specs.Prelude.{◌≡◌, ◌+◌, ◌++◌, ◌∷◌, [], length, Ok, false, IfOk, OnOk, OnErr, IsTrue};
 ghost use Rattle.std.specs.List.{list_all};
 ghost use Rattle.std.specs.Io.KnownBytes.{Appends};
-ghost use Rattle.serde_json.specs.View.{view};
 ghost use Rattle.config_model.specs.Event.{run_at};
 ghost use Rattle.config_types.specs.Form.{has_event_form};
 ghost use Rattle.schedule_script.specs.Kept.{AreAlike, ties_in};
@@ -14,20 +13,20 @@ ghost use Rattle.ov_io.specs.Inputs.{TookFront};
 ghost use Rattle.ov_io.specs.Pieces.{HasWriteCause, IsOnItsWay};
 ghost use Rattle.report.specs.Answers.{tied_answer_lines};
 ghost use Rattle.net_machine.specs.MachineMomentLaws.Runs.{answer_tied, tied_moment};
-ghost use Rattle.compile_answers.specs.Answers.{IsAnswered, WasGiven, answer_good};
+ghost use Rattle.compile_answers.specs.Answers.{WasGiven};
 ghost use Rattle.compile_answers.specs.Leaving.{LeftOn, PromisedOn};
-ghost use Rattle.top_call.specs.RunAnswers.{run_answer, run_value};
+ghost use Rattle.top_call.specs.RunAnswers.{run_answer, run_taken};
 ghost use Rattle.net_machine.specs.Taken.{HasTaken};
-ghost use Rattle.top_call.specs.RunNetworks.{AreReadAs, IsLeftOf, TookAnswers, input_of};
+ghost use Rattle.top_call.specs.RunNetworks.{IsLeftOf, TookAnswers, input_of};
 ghost use Rattle.top_call.specs.Schedules.{run_text};
 
-use compile_answers::{Reception, Unfit, valid_of, write_unfit};
+use compile_answers::{Question, Reception, Unfit, read_question, valid_of, write_unfit};
 use config_check::Valid;
-use config_model::{ReadRefusal, RunInput, read_run};
+use config_model::{RunInput, read_run};
 use config_types::Event;
 use net_machine::{Net, leave, leave_none};
-use ov_io::{Sink, TextOut, WriteRefusal, value_of, write_gathered, write_piece};
-use ov_types::{Items, NoMemory};
+use ov_io::{Sink, TextOut, WriteRefusal, write_gathered, write_piece};
+use ov_types::Items;
 use report::tied_answer_lines;
 use serde_json::Value;
 use std::alloc::Global;
@@ -39,36 +38,20 @@ struct Schedule {
     events: Items<Event>,
 }
 
-/// What `run` takes from a value.
-#[tactic(auto, unfolding(crate::specs::RunAnswers::run_value))]
-fn schedule_taken(alloc: Global, value: &Value) -> Result<Schedule, Unfit>
-    ensures fit { IfOk result (λ s. run_value (view value.now) ≡ answer_good (run_text s.valid s.events)) }
-    ensures read { IfOk result (λ s. run_at [] (view value.now) ≡ Ok (input_of s.valid s.events)) }
-    ensures form { IfOk result (λ s. IsTrue (list_all has_event_form s.events)) }
-    ensures unfit { IfErr result (λ unfit. IsAnswered unfit (run_value (view value.now))) }
-{
-    match read_run(alloc, value) {
-        Ok(RunInput { input, events }) => match valid_of(alloc, input) {
+impl Question for Schedule {
+    ghost taken = { run_taken };
+
+    ghost reads = { λ d s. run_at [] d ≡ Ok (input_of s.valid s.events) };
+
+    ghost form = { λ s. IsTrue (list_all has_event_form s.events) };
+
+    #[tactic(auto, using(compile_answers::proofs::Unfitting::fault_unfit, compile_answers::proofs::Unfitting::rule_unfit), unfolding(crate::specs::RunAnswers::run_taken))]
+    fn from_value(alloc: Global, value: &Value) -> Result<Self, Unfit> {
+        let RunInput { input, events } = read_run(alloc, value)?;
+        match valid_of(alloc, input) {
             Ok(valid) => Ok(Schedule { valid, events }),
             Err(unfit) => Err(unfit),
-        },
-        Err(ReadRefusal::Doc(fault)) => Err(Unfit::BadDocument(fault)),
-        Err(ReadRefusal::NoMemory) => Err(Unfit::NoMemory),
-    }
-}
-
-/// What `run` takes from an input.
-#[tactic(auto, unfolding(crate::specs::RunAnswers::run_answer))]
-fn schedule_asked(alloc: Global, octets: &[u8]) -> Result<Schedule, Unfit>
-    ensures fit { IfOk result (λ s. run_answer octets.now ≡ answer_good (run_text s.valid s.events)) }
-    ensures read { IfOk result (λ s. AreReadAs octets.now (input_of s.valid s.events)) }
-    ensures form { IfOk result (λ s. IsTrue (list_all has_event_form s.events)) }
-    ensures unfit { IfErr result (λ unfit. IsAnswered unfit (run_answer octets.now)) }
-{
-    match value_of(alloc, octets) {
-        Ok(Some(value)) => schedule_taken(alloc, &value),
-        Ok(None) => Err(Unfit::NotJson),
-        Err(NoMemory) => Err(Unfit::NoMemory),
+        }
     }
 }
 
@@ -159,7 +142,7 @@ pub(crate) fn know_valid(valid: &Valid)
 }
 
 /// Writes what `run` answers to an input. The network that took the events is left where all was written.
-#[tactic(auto, using(crate::proofs::Ending::run_ends))]
+#[tactic(auto, using(crate::proofs::Ending::run_ends, compile_answers::proofs::Unfitting::unfit_answered), unfolding(crate::specs::RunAnswers::run_answer))]
 pub fn answer_run<K: Sink>(
     alloc: Global,
     octets: &[u8],
@@ -174,7 +157,7 @@ pub fn answer_run<K: Sink>(
     ensures promise { PromisedOn (TookAnswers octets.now (K.taken sink.old) (K.taken sink.new)) result }
 {
     leave_none(net);
-    match schedule_asked(alloc, octets) {
+    match read_question::<Schedule>(alloc, octets) {
         Ok(Schedule { valid, events }) => {
             // (for its clause: the configuration is valid and of the written form)
             know_valid(&valid);
